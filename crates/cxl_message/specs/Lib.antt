@@ -1,0 +1,13 @@
+pub mod Lists
+pub mod Codes
+pub mod Channels
+pub mod Spans
+pub mod Messages
+pub mod Events
+pub mod Profile
+pub mod Formed
+pub mod Setup
+pub mod Opening
+pub mod Padding
+pub mod Places
+pub mod Script

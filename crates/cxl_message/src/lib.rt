@@ -1,0 +1,29 @@
+// The values of the protocol: messages, events, the setup of a machine and the opening of its memory.
+//
+// Names and meanings of messages are those of the CXL Specification 3.1, chapter 3, for device-managed coherent
+// memory (HDM-DB). What is marked "own rule" is this project's own and no statement about the standard.
+#![tactic(auto)]
+
+mod channels;
+mod configuration;
+mod events;
+mod formed;
+mod identifiers;
+mod messages;
+mod opcodes;
+mod openings;
+mod profile;
+mod states;
+#[cfg(test)]
+mod tests;
+
+pub use channels::Channel;
+pub use configuration::{Setup, SetupRefusal};
+pub use events::{Act, Cause, Commit, Event, Op, Out, Sends};
+pub use formed::well_formed;
+pub use identifiers::{BiTag, Bytes64, Line, Tag};
+pub use messages::Message;
+pub use opcodes::{Meta, NdrOp, ReqOp, RspOp, SnpOp, SnpType, Span};
+pub use openings::{Opening, OpeningRefusal};
+pub use profile::in_profile;
+pub use states::{CopyState, Listing, RuleNo};
