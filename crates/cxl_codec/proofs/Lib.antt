@@ -1,0 +1,10 @@
+pub mod CellBytes
+pub mod Runs
+pub mod Outcomes
+pub mod Parts
+pub mod Tables
+pub mod MessageReads
+pub mod EventReads
+pub mod FileReads
+pub mod Meanings
+pub mod Laws

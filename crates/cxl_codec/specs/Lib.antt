@@ -1,0 +1,14 @@
+pub mod Cells
+pub mod Names
+pub mod Header
+pub mod Openings
+pub mod Messages
+pub mod Events
+pub mod EndRecord
+pub mod Kinds
+pub mod Traces
+pub mod Grammar
+pub mod Refusals
+pub mod Reading
+pub mod ReadingEvents
+pub mod ReadingFiles

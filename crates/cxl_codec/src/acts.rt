@@ -1,0 +1,142 @@
+// The acts inside event records.
+ghost use Rattle.std.specs.Prelude.{◌≡◌, ◌+◌, ◌≤◌, ◌++◌, vec_len, vec_capacity};
+ghost use Rattle.cxl_codec.specs.Cells.{bytes_of, kind, field, number};
+ghost use Rattle.cxl_codec.specs.Events.{act_cells};
+ghost use Rattle.cxl_codec.specs.Reading.{Gives};
+ghost use Rattle.cxl_codec.specs.ReadingEvents.{act_fields_at, act_at};
+ghost use Rattle.std.specs.Prelude.{◌∷◌};
+ghost use Rattle.std.specs.Int.{w16, w32};
+ghost use Rattle.cxl_codec.specs.declared.fields.FieldName.{FieldName};
+
+use crate::codes::channel_code;
+use crate::faults::Fault;
+use crate::fields::FieldName;
+use crate::kinds::{ActKind, read_act_kind};
+use crate::reading::{read_channel, read_line, read_tag, read_within};
+use crate::writing::put;
+use cxl_message::{Act, Line, Tag};
+
+/// How many bytes an act has at most.
+pub const LONGEST_ACT: usize = 6;
+
+/// Appends an act. There is room for it.
+pub fn put_act(out: &mut Vec<u8>, act: &Act)
+    requires { vec_len out.old + LONGEST_ACT ≤ vec_capacity out.old }
+    ensures items { out.new.items ≡ out.old.items ++ bytes_of (act_cells act.now) }
+    ensures len { vec_len out.new ≤ vec_len out.old + LONGEST_ACT }
+    ensures capacity { vec_capacity out.old ≤ vec_capacity out.new }
+{
+    match act {
+        Act::Conflict(line) => put_line_act(out, 0x01, *line),
+        Act::WriteBack(line) => put_line_act(out, 0x02, *line),
+        Act::Answer(line) => put_line_act(out, 0x03, *line),
+        Act::AnswerBlock(line) => put_line_act(out, 0x04, *line),
+        Act::HostReturn(channel) => put(out, &[0x05, channel_code(*channel)]),
+        Act::Serve { host, tag } => put_tag_act(out, 0x11, *host, *tag),
+        Act::Clean { host, tag } => put_tag_act(out, 0x12, *host, *tag),
+        Act::Start { host, tag } => put_tag_act(out, 0x13, *host, *tag),
+        Act::Evict { host, tag } => put_tag_act(out, 0x14, *host, *tag),
+        Act::Snoop { host, line } => {
+            let [l3, l2, l1, l0] = line.0.to_be_bytes();
+            put(out, &[0x15, *host, l3, l2, l1, l0])
+        }
+        Act::Finish(line) => put_line_act(out, 0x16, *line),
+        Act::DeviceReturn { host, channel } => put(out, &[0x17, *host, channel_code(*channel)]),
+    }
+}
+
+/// Appends an act of this kind that names a line. There is room for it.
+#[inline(always)]
+fn put_line_act(out: &mut Vec<u8>, code: u8, line: Line)
+    requires { vec_len out.old + 5 ≤ vec_capacity out.old }
+    ensures items { out.new.items ≡ out.old.items ++ bytes_of (kind code ∷ number w32 line.0) }
+    ensures len { vec_len out.new ≡ vec_len out.old + 5 }
+    ensures capacity { vec_capacity out.old ≤ vec_capacity out.new }
+{
+    let [l3, l2, l1, l0] = line.0.to_be_bytes();
+    put(out, &[code, l3, l2, l1, l0]);
+}
+
+/// Appends an act of this kind that names a host and a tag. There is room for it.
+#[inline(always)]
+fn put_tag_act(out: &mut Vec<u8>, code: u8, host: u8, tag: Tag)
+    requires { vec_len out.old + 4 ≤ vec_capacity out.old }
+    ensures items { out.new.items ≡ out.old.items ++ bytes_of (kind code ∷ field FieldName.Host host ∷ number w16 tag.0) }
+    ensures len { vec_len out.new ≡ vec_len out.old + 4 }
+    ensures capacity { vec_capacity out.old ≤ vec_capacity out.new }
+{
+    let [t1, t0] = tag.0.to_be_bytes();
+    put(out, &[code, host, t1, t0]);
+}
+
+/// Reads an act.
+#[tactic(auto, unfolding(crate::specs::ReadingEvents::act_at))]
+pub fn read_act(bytes: &[u8]) -> Result<(Act, &[u8]), Fault>
+    ensures { Gives (λ x. (x.0, x.1.now)) result (act_at bytes.now) }
+{
+    let (kind, rest) = read_act_kind(bytes)?;
+    read_act_fields(kind, rest)
+}
+
+/// Reads the fields of an act of this kind.
+#[tactic(auto, unfolding(crate::specs::ReadingEvents::act_fields_at))]
+fn read_act_fields(kind: ActKind, bytes: &[u8]) -> Result<(Act, &[u8]), Fault>
+    ensures { Gives (λ x. (x.0, x.1.now)) result (act_fields_at kind bytes.now) }
+{
+    match kind {
+        ActKind::Conflict => {
+            let (line, rest) = read_line(bytes)?;
+            Ok((Act::Conflict(line), rest))
+        }
+        ActKind::WriteBack => {
+            let (line, rest) = read_line(bytes)?;
+            Ok((Act::WriteBack(line), rest))
+        }
+        ActKind::Answer => {
+            let (line, rest) = read_line(bytes)?;
+            Ok((Act::Answer(line), rest))
+        }
+        ActKind::AnswerBlock => {
+            let (line, rest) = read_line(bytes)?;
+            Ok((Act::AnswerBlock(line), rest))
+        }
+        ActKind::HostReturn => {
+            let (channel, rest) = read_channel(bytes)?;
+            Ok((Act::HostReturn(channel), rest))
+        }
+        ActKind::Serve => {
+            let (host, rest) = read_within(bytes, FieldName::Host, 0, 15)?;
+            let (tag, rest) = read_tag(rest)?;
+            Ok((Act::Serve { host, tag }, rest))
+        }
+        ActKind::Clean => {
+            let (host, rest) = read_within(bytes, FieldName::Host, 0, 15)?;
+            let (tag, rest) = read_tag(rest)?;
+            Ok((Act::Clean { host, tag }, rest))
+        }
+        ActKind::Start => {
+            let (host, rest) = read_within(bytes, FieldName::Host, 0, 15)?;
+            let (tag, rest) = read_tag(rest)?;
+            Ok((Act::Start { host, tag }, rest))
+        }
+        ActKind::Evict => {
+            let (host, rest) = read_within(bytes, FieldName::Host, 0, 15)?;
+            let (tag, rest) = read_tag(rest)?;
+            Ok((Act::Evict { host, tag }, rest))
+        }
+        ActKind::Snoop => {
+            let (host, rest) = read_within(bytes, FieldName::Host, 0, 15)?;
+            let (line, rest) = read_line(rest)?;
+            Ok((Act::Snoop { host, line }, rest))
+        }
+        ActKind::Finish => {
+            let (line, rest) = read_line(bytes)?;
+            Ok((Act::Finish(line), rest))
+        }
+        ActKind::DeviceReturn => {
+            let (host, rest) = read_within(bytes, FieldName::Host, 0, 15)?;
+            let (channel, rest) = read_channel(rest)?;
+            Ok((Act::DeviceReturn { host, channel }, rest))
+        }
+    }
+}

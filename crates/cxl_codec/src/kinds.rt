@@ -1,0 +1,190 @@
+// What stands at the kind bytes of an event record: one table for each place.
+ghost use Rattle.std.specs.Prelude.{◌≡◌, ◌==◌, find};
+ghost use Rattle.cxl_codec.specs.Reading.{Gives, kind_of};
+ghost use Rattle.cxl_codec.specs.Kinds.{cause_kind_code, cause_kinds, op_kind_code, op_kinds, act_kind_code, act_kinds, message_kind_code, message_kinds};
+
+use crate::faults::Fault;
+use cxl_message::{NdrOp, ReqOp, RspOp, SnpOp};
+
+/// The kinds of cause.
+#[derive(Clone, Copy)]
+pub enum CauseKind {
+    Op,
+    Take,
+    Act,
+}
+
+/// The kinds of operation.
+#[derive(Clone, Copy)]
+pub enum OpKind {
+    Load,
+    Word,
+    Whole,
+}
+
+/// The kinds of act.
+#[derive(Clone, Copy)]
+pub enum ActKind {
+    Conflict,
+    WriteBack,
+    Answer,
+    AnswerBlock,
+    HostReturn,
+    Serve,
+    Clean,
+    Start,
+    Evict,
+    Snoop,
+    Finish,
+    DeviceReturn,
+}
+
+/// The kinds of message, with the opcodes of those that share their fields.
+#[derive(Clone, Copy)]
+pub enum MessageKind {
+    Req(ReqOp),
+    MemWr,
+    BiConflict,
+    BiRsp(RspOp),
+    Ndr(NdrOp),
+    MemData,
+    BiSnp(SnpOp),
+    Credit,
+}
+
+/// The kind of cause of this number, if there is one.
+#[inline(always)]
+pub fn cause_kind(code: u8) -> Option<CauseKind>
+    ensures { result ≡ find (λ k. cause_kind_code k == code) cause_kinds }
+{
+    match code {
+        0x01 => Some(CauseKind::Op),
+        0x02 => Some(CauseKind::Take),
+        0x03 => Some(CauseKind::Act),
+        _ => None,
+    }
+}
+
+/// The kind of operation of this number, if there is one.
+#[inline(always)]
+pub fn op_kind(code: u8) -> Option<OpKind>
+    ensures { result ≡ find (λ k. op_kind_code k == code) op_kinds }
+{
+    match code {
+        0x01 => Some(OpKind::Load),
+        0x02 => Some(OpKind::Word),
+        0x03 => Some(OpKind::Whole),
+        _ => None,
+    }
+}
+
+/// The kind of act of this number, if there is one.
+#[inline(always)]
+pub fn act_kind(code: u8) -> Option<ActKind>
+    ensures { result ≡ find (λ k. act_kind_code k == code) act_kinds }
+{
+    match code {
+        0x01 => Some(ActKind::Conflict),
+        0x02 => Some(ActKind::WriteBack),
+        0x03 => Some(ActKind::Answer),
+        0x04 => Some(ActKind::AnswerBlock),
+        0x05 => Some(ActKind::HostReturn),
+        0x11 => Some(ActKind::Serve),
+        0x12 => Some(ActKind::Clean),
+        0x13 => Some(ActKind::Start),
+        0x14 => Some(ActKind::Evict),
+        0x15 => Some(ActKind::Snoop),
+        0x16 => Some(ActKind::Finish),
+        0x17 => Some(ActKind::DeviceReturn),
+        _ => None,
+    }
+}
+
+/// The kind of message of this number, if there is one.
+#[inline(always)]
+pub fn message_kind(code: u8) -> Option<MessageKind>
+    ensures { result ≡ find (λ k. message_kind_code k == code) message_kinds }
+{
+    match code {
+        0x01 => Some(MessageKind::Req(ReqOp::MemRd)),
+        0x02 => Some(MessageKind::Req(ReqOp::MemInv)),
+        0x03 => Some(MessageKind::Req(ReqOp::MemClnEvct)),
+        0x11 => Some(MessageKind::MemWr),
+        0x12 => Some(MessageKind::BiConflict),
+        0x21 => Some(MessageKind::BiRsp(RspOp::I)),
+        0x22 => Some(MessageKind::BiRsp(RspOp::S)),
+        0x23 => Some(MessageKind::BiRsp(RspOp::E)),
+        0x24 => Some(MessageKind::BiRsp(RspOp::IBlk)),
+        0x25 => Some(MessageKind::BiRsp(RspOp::SBlk)),
+        0x26 => Some(MessageKind::BiRsp(RspOp::EBlk)),
+        0x31 => Some(MessageKind::Ndr(NdrOp::Cmp)),
+        0x32 => Some(MessageKind::Ndr(NdrOp::CmpS)),
+        0x33 => Some(MessageKind::Ndr(NdrOp::CmpE)),
+        0x34 => Some(MessageKind::Ndr(NdrOp::ConflictAck)),
+        0x41 => Some(MessageKind::MemData),
+        0x51 => Some(MessageKind::BiSnp(SnpOp::Cur)),
+        0x52 => Some(MessageKind::BiSnp(SnpOp::Dat)),
+        0x53 => Some(MessageKind::BiSnp(SnpOp::Inv)),
+        0x54 => Some(MessageKind::BiSnp(SnpOp::CurBlk)),
+        0x55 => Some(MessageKind::BiSnp(SnpOp::DatBlk)),
+        0x56 => Some(MessageKind::BiSnp(SnpOp::InvBlk)),
+        0x61 => Some(MessageKind::Credit),
+        _ => None,
+    }
+}
+
+/// The kind byte of a cause.
+#[inline(always)]
+pub fn read_cause_kind(bytes: &[u8]) -> Result<(CauseKind, &[u8]), Fault>
+    ensures { Gives (λ x. (x.0, x.1.now)) result (kind_of (λ b. find (λ k. cause_kind_code k == b) cause_kinds) bytes.now) }
+{
+    match bytes {
+        [] => Err(Fault::Short),
+        [code, rest @ ..] => match cause_kind(*code) {
+            Some(kind) => Ok((kind, rest)),
+            None => Err(Fault::Kind { left: bytes.len() }),
+        },
+    }
+}
+
+/// The kind byte of an operation.
+#[inline(always)]
+pub fn read_op_kind(bytes: &[u8]) -> Result<(OpKind, &[u8]), Fault>
+    ensures { Gives (λ x. (x.0, x.1.now)) result (kind_of (λ b. find (λ k. op_kind_code k == b) op_kinds) bytes.now) }
+{
+    match bytes {
+        [] => Err(Fault::Short),
+        [code, rest @ ..] => match op_kind(*code) {
+            Some(kind) => Ok((kind, rest)),
+            None => Err(Fault::Kind { left: bytes.len() }),
+        },
+    }
+}
+
+/// The kind byte of an act.
+#[inline(always)]
+pub fn read_act_kind(bytes: &[u8]) -> Result<(ActKind, &[u8]), Fault>
+    ensures { Gives (λ x. (x.0, x.1.now)) result (kind_of (λ b. find (λ k. act_kind_code k == b) act_kinds) bytes.now) }
+{
+    match bytes {
+        [] => Err(Fault::Short),
+        [code, rest @ ..] => match act_kind(*code) {
+            Some(kind) => Ok((kind, rest)),
+            None => Err(Fault::Kind { left: bytes.len() }),
+        },
+    }
+}
+
+/// The kind byte of a message.
+#[inline(always)]
+pub fn read_message_kind(bytes: &[u8]) -> Result<(MessageKind, &[u8]), Fault>
+    ensures { Gives (λ x. (x.0, x.1.now)) result (kind_of (λ b. find (λ k. message_kind_code k == b) message_kinds) bytes.now) }
+{
+    match bytes {
+        [] => Err(Fault::Short),
+        [code, rest @ ..] => match message_kind(*code) {
+            Some(kind) => Ok((kind, rest)),
+            None => Err(Fault::Kind { left: bytes.len() }),
+        },
+    }
+}

@@ -1,0 +1,30 @@
+// The records of trace files: their bytes, both ways.
+//
+// A trace is a header, the openings of lines, the events and an end record. Numbers are unsigned, the highest byte
+// first. Every byte here is this project's own and no statement about the CXL standard.
+#![tactic(auto)]
+
+mod acts;
+mod codes;
+mod ends;
+mod events;
+mod faults;
+mod fields;
+mod headers;
+mod kinds;
+mod messages;
+mod openings;
+mod operations;
+mod reading;
+mod refusals;
+mod writing;
+
+pub use ends::{decode_end, encode_end};
+pub use events::{decode_event, encode_event};
+pub use fields::FieldName;
+pub use headers::{decode_header, encode_header};
+pub use openings::{decode_opening, encode_opening};
+pub use refusals::DecodeRefusal;
+
+#[cfg(test)]
+mod tests;
