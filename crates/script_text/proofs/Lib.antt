@@ -1,0 +1,10 @@
+pub mod Numbers
+pub mod Digits
+pub mod Streams
+pub mod WordLaws
+pub mod LineLaws
+pub mod HeadLaws
+pub mod BodyLaws
+pub mod RunLaws
+pub mod WholeLaws
+pub mod Readings

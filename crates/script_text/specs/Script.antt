@@ -1,0 +1,46 @@
+-- Which values are scripts, and which of them are first scripts. Every rule here is an own rule.
+use Rattle.std.specs.Prelude.{ℕ, Bool, true, false, List, ◌≡◌, ◌≤◌, ◌^◌, ◌&&◌, ◌==◌, not, nat_lt, nat_le, IsTrue, length}
+use Rattle.std.specs.List.{list_all, sum_by}
+use Rattle.cxl_message.specs.declared.identifiers.Bytes64.{Bytes64}
+use Rattle.cxl_message.specs.declared.events.Op.{Op}
+use Rattle.cxl_message.specs.Opening.{IsOpening, opening_fits}
+use Rattle.cxl_message.specs.Script.{ScriptValue}
+use Rattle.cxl_message.specs.Setup.{IsWithinLimits}
+
+-- whether these are 64 bytes
+abbrev pub are_line_bytes : Bytes64 → Bool
+are_line_bytes bytes = (length bytes.0 == 64) && list_all (λ byte. nat_lt byte 256) bytes.0
+
+-- whether the line of an operation is one of so many, its place one of eight, and its value one of 64 bits or of 64 bytes
+abbrev pub op_fits : ℕ → Op → Bool
+op_fits lines (Op.Load line) = nat_lt line.0 lines
+op_fits lines (Op.Word line place value) = nat_lt line.0 lines && nat_le place 7 && nat_lt value (2 ^ 64)
+op_fits lines (Op.Whole line bytes) = nat_lt line.0 lines && are_line_bytes bytes
+
+-- how many operations there are in all streams
+abbrev pub operation_count : List (List Op) → ℕ
+operation_count operations = sum_by length operations
+
+-- every number of a script is within its limits, its opening is one, and each stream has its operations
+pub record IsScript (s : ScriptValue) : Type 0 where
+  pub setup : IsWithinLimits s.setup
+  pub room : (1 ≤ s.room) × (s.room ≤ 200000)
+  pub opening : IsOpening s.opening
+  pub opening_lines : IsTrue (opening_fits s.setup.lines s.opening)
+  pub opening_bytes : IsTrue (list_all (λ pair. are_line_bytes pair.1) s.opening)
+  pub streams : length s.operations ≡ length s.setup.streams
+  pub operations : IsTrue (list_all (λ ops. list_all (op_fits s.setup.lines) ops) s.operations)
+  pub operation_count : operation_count s.operations ≤ 65536
+  pub picks : IsTrue (list_all (λ pick. nat_le pick 65535) s.picks)
+
+-- whether an operation stores a whole line
+abbrev pub is_whole : Op → Bool
+is_whole (Op.Load _) = false
+is_whole (Op.Word _ _ _) = false
+is_whole (Op.Whole _ _) = true
+
+-- whether a script is a first script: one host, at most one stream, room for every line, no opening, no whole line, no pick
+abbrev pub is_first_script : ScriptValue → Bool
+is_first_script s =
+    (s.setup.hosts == 1) && nat_le (length s.setup.streams) 1 && nat_le s.setup.lines s.setup.entries && nat_le s.setup.lines s.setup.ways
+    && (length s.opening == 0) && (length s.picks == 0) && list_all (λ ops. list_all (λ op. not (is_whole op)) ops) s.operations

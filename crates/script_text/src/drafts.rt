@@ -1,0 +1,221 @@
+// A script while it is read.
+ghost use Rattle.std.specs.Prelude.{◌≡◌, ◌<◌, ◌≤◌, ◌+◌, OnOk, IfErr, Some, None, [], ◌∷◌, ◌++◌, length};
+ghost use Rattle.cxl_message.specs.Setup.{IsWithinLimits};
+ghost use Rattle.script_text.specs.Drafts.{script_of, IsCounted, AddsLine, IsRefusedAt};
+ghost use Rattle.script_text.specs.Refusals.{IfBad, op_refusal, with_op};
+ghost use Rattle.script_text.specs.Script.{IsScript};
+
+use crate::lines::ScriptLine;
+use crate::refusals::{ScriptReason, ScriptRefusal};
+use cxl_message::{Bytes64, Line, Op, Opening, OpeningRefusal, Setup};
+use std::alloc::Global;
+
+/// What the lines that were read say, and how many operations there are.
+#[derive(Drop)]
+pub struct Draft {
+    pub setup: Setup,
+    pub room: u32,
+    pub opening: Opening,
+    pub operations: Vec<Vec<Op>>,
+    pub picks: Vec<u16>,
+    pub count: u32,
+}
+
+impl Draft {
+    /// A draft with no line after the seventh.
+    pub fn new(alloc: Global, setup: Setup, room: u32) -> Draft
+        ensures script { script_of result ≡ record { setup = setup; room = room; opening = []; operations = []; picks = [] } }
+        ensures counted { IsCounted result }
+    {
+        Draft {
+            setup,
+            room,
+            opening: Opening::new(alloc),
+            operations: Vec::new(alloc),
+            picks: Vec::new(alloc),
+            count: 0,
+        }
+    }
+
+    /// Adds the line of this number, if it may stand after those that were read.
+    pub fn add(
+        &mut self,
+        alloc: Global,
+        number: u32,
+        line: &ScriptLine,
+    ) -> Result<(), ScriptRefusal>
+        requires script { IsScript (script_of self.old) }
+        requires counted { IsCounted self.old }
+        ensures added { OnOk result (AddsLine line.now self.old self.new) }
+        ensures refused { IfErr result (IsRefusedAt number line.now self.old) }
+    {
+        match line {
+            ScriptLine::Open { line, bytes } => self.add_opening(number, *line, bytes),
+            ScriptLine::Stream { host } => self.add_stream(alloc, number, *host),
+            ScriptLine::Load { line } => self.add_load(number, *line),
+            ScriptLine::Word { line, place, value } => self.add_word(number, *line, *place, *value),
+            ScriptLine::Whole { line, bytes } => self.add_whole(number, *line, bytes),
+            ScriptLine::Pick { pick } => self.add_pick(number, *pick),
+        }
+    }
+
+    fn add_opening(&mut self, number: u32, line: u64, bytes: &Bytes64) -> Result<(), ScriptRefusal>
+        requires script { IsScript (script_of self.old) }
+        requires counted { IsCounted self.old }
+        ensures added { OnOk result (AddsLine (ScriptLine.Open line bytes.now) self.old self.new) }
+        ensures refused { IfErr result (IsRefusedAt number (ScriptLine.Open line bytes.now) self.old) }
+    {
+        if !self.setup.streams().is_empty() || !self.picks.is_empty() {
+            return Err(bad(number, ScriptReason::Spelling));
+        }
+        if line >= u64::from(self.setup.lines()) {
+            return Err(bad(number, ScriptReason::Range));
+        }
+        match self.opening.add(Line(line as u32), bytes) {
+            Ok(()) => Ok(()),
+            Err(OpeningRefusal::Memory) => Err(ScriptRefusal::Memory),
+            Err(OpeningRefusal::Order) => Err(bad(number, ScriptReason::Order)),
+            Err(OpeningRefusal::Zero) => Err(bad(number, ScriptReason::Order)),
+        }
+    }
+
+    fn add_stream(&mut self, alloc: Global, number: u32, host: u64) -> Result<(), ScriptRefusal>
+        requires script { IsScript (script_of self.old) }
+        requires counted { IsCounted self.old }
+        ensures added { OnOk result (AddsLine (ScriptLine.Stream host) self.old self.new) }
+        ensures refused { IfErr result (IsRefusedAt number (ScriptLine.Stream host) self.old) }
+    {
+        if !self.picks.is_empty() {
+            return Err(bad(number, ScriptReason::Spelling));
+        }
+        if host >= u64::from(self.setup.hosts()) {
+            return Err(bad(number, ScriptReason::Range));
+        }
+        if self.setup.streams().len() >= 64 {
+            return Err(bad(number, ScriptReason::Many));
+        }
+        self.operations.push(Vec::new(alloc))?;
+        self.setup = with_stream(&self.setup, host as u8);
+        Ok(())
+    }
+
+    fn add_load(&mut self, number: u32, line: u64) -> Result<(), ScriptRefusal>
+        requires script { IsScript (script_of self.old) }
+        requires counted { IsCounted self.old }
+        ensures added { OnOk result (AddsLine (ScriptLine.Load line) self.old self.new) }
+        ensures refused { IfErr result (IsRefusedAt number (ScriptLine.Load line) self.old) }
+    {
+        let fits = line < u64::from(self.setup.lines());
+        self.allow_operation(number, fits)?;
+        let line = Line(line as u32);
+        self.add_operation(Op::Load { line })
+    }
+
+    fn add_word(
+        &mut self,
+        number: u32,
+        line: u64,
+        place: u64,
+        value: u64,
+    ) -> Result<(), ScriptRefusal>
+        requires script { IsScript (script_of self.old) }
+        requires counted { IsCounted self.old }
+        ensures added { OnOk result (AddsLine (ScriptLine.Word line place value) self.old self.new) }
+        ensures refused { IfErr result (IsRefusedAt number (ScriptLine.Word line place value) self.old) }
+    {
+        let fits = line < u64::from(self.setup.lines()) && place <= 7;
+        self.allow_operation(number, fits)?;
+        let line = Line(line as u32);
+        let place = place as u8;
+        self.add_operation(Op::Word { line, place, value })
+    }
+
+    fn add_whole(&mut self, number: u32, line: u64, bytes: &Bytes64) -> Result<(), ScriptRefusal>
+        requires script { IsScript (script_of self.old) }
+        requires counted { IsCounted self.old }
+        ensures added { OnOk result (AddsLine (ScriptLine.Whole line bytes.now) self.old self.new) }
+        ensures refused { IfErr result (IsRefusedAt number (ScriptLine.Whole line bytes.now) self.old) }
+    {
+        let fits = line < u64::from(self.setup.lines());
+        self.allow_operation(number, fits)?;
+        let line = Line(line as u32);
+        let bytes = *bytes;
+        self.add_operation(Op::Whole { line, bytes })
+    }
+
+    fn add_pick(&mut self, number: u32, pick: u64) -> Result<(), ScriptRefusal>
+        requires counted { IsCounted self.old }
+        ensures added { OnOk result (AddsLine (ScriptLine.Pick pick) self.old self.new) }
+        ensures refused { IfErr result (IsRefusedAt number (ScriptLine.Pick pick) self.old) }
+    {
+        if pick > 65535 {
+            return Err(bad(number, ScriptReason::Range));
+        }
+        self.picks.push(pick as u16)?;
+        Ok(())
+    }
+
+    /// Whether an operation, whose numbers fit or don't, may stand after the lines that were read.
+    fn allow_operation(&self, number: u32, fits: bool) -> Result<(), ScriptRefusal>
+        requires counted { IsCounted self.now }
+        ensures allowed { OnOk result (op_refusal (script_of self.now) fits ≡ None) }
+        ensures refused { IfErr result (λ refusal. IfBad refusal (λ at reason. (at ≡ number) × (op_refusal (script_of self.now) fits ≡ Some reason))) }
+    {
+        if self.setup.streams().is_empty() || !self.picks.is_empty() {
+            return Err(bad(number, ScriptReason::Spelling));
+        }
+        if !fits {
+            return Err(bad(number, ScriptReason::Range));
+        }
+        if self.count >= 65536 {
+            return Err(bad(number, ScriptReason::Many));
+        }
+        Ok(())
+    }
+
+    /// Adds an operation to the last stream.
+    fn add_operation(&mut self, op: Op) -> Result<(), ScriptRefusal>
+        requires counted { IsCounted self.old }
+        requires streams { 0 < length self.old.operations.items }
+        requires few { self.old.count < 65536 }
+        ensures added { OnOk result (script_of self.new ≡ record (script_of self.old) { operations = with_op (script_of self.old).operations op }) }
+        ensures counted { OnOk result (IsCounted self.new) }
+        ensures memory { IfErr result (λ refusal. refusal ≡ ScriptRefusal.Memory) }
+    {
+        let last = self.operations.len() - 1;
+        self.operations[last].push(op)?;
+        self.count += 1;
+        Ok(())
+    }
+}
+
+/// The refusal of the line of this number.
+fn bad(line: u32, reason: ScriptReason) -> ScriptRefusal
+    ensures { result ≡ ScriptRefusal.Bad line reason }
+{
+    ScriptRefusal::Bad { line, reason }
+}
+
+/// A setup with one stream more.
+fn with_stream(setup: &Setup, host: u8) -> Setup
+    requires few { length setup.now.streams < 64 }
+    requires exists { host < setup.now.hosts }
+    ensures { result ≡ record setup.now { streams = setup.now.streams ++ host ∷ [] } }
+{
+    let mut hosts = [0; 64];
+    let count = setup.streams().len();
+    hosts[..count].copy_from_slice(setup.streams());
+    hosts[count] = host;
+    match Setup::new(
+        setup.hosts(),
+        setup.lines(),
+        setup.entries(),
+        setup.ways(),
+        setup.tags(),
+        setup.credits(),
+        &hosts[..count + 1],
+    ) {
+        Ok(setup) => setup,
+        Err(_) => unreachable!(),
+    }
+}
