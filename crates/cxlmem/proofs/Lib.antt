@@ -1,0 +1,3 @@
+pub mod FirstScripts
+pub mod Fronts
+pub mod IdleTraces

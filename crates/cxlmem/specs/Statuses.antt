@@ -1,0 +1,31 @@
+-- The numbers of statuses, and which of them come today. Every rule here is an own rule.
+use Rattle.std.specs.Prelude.{ℕ}
+use Rattle.cxlmem.specs.declared.ends.Status.{Status}
+
+-- the exit status of the process
+abbrev pub code_of : Status → ℕ
+code_of Status.Ok = 0
+code_of Status.Usage = 2
+code_of Status.ReadFault = 3
+code_of Status.WriteFault = 4
+code_of Status.BadScript = 5
+code_of Status.BadTrace = 6
+code_of Status.NotARun = 7
+code_of Status.Memory = 8
+code_of Status.JournalFull = 9
+code_of Status.TooLong = 10
+code_of Status.NotBuilt = 11
+
+-- a status that the commands answer today
+abbrev pub IsAnswer : Status → Type 0
+IsAnswer Status.Ok = Unit {0}
+IsAnswer Status.Usage = ⊥
+IsAnswer Status.ReadFault = Unit {0}
+IsAnswer Status.WriteFault = Unit {0}
+IsAnswer Status.BadScript = ⊥
+IsAnswer Status.BadTrace = ⊥
+IsAnswer Status.NotARun = ⊥
+IsAnswer Status.Memory = Unit {0}
+IsAnswer Status.JournalFull = ⊥
+IsAnswer Status.TooLong = ⊥
+IsAnswer Status.NotBuilt = Unit {0}
