@@ -1,0 +1,5 @@
+pub mod FirstRules
+pub mod HostRules
+pub mod DeviceRules
+pub mod NotRuns
+pub mod Accepted

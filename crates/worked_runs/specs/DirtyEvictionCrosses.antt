@@ -1,0 +1,54 @@
+-- The worked trace 'Dirty eviction crosses': a host with one way evicts its modified line 0 while the other host wants it. Lists of events are oldest first.
+use Rattle.std.specs.Prelude.{List, [], reverse, ◌++◌, ◌∷◌, ◌≡◌}
+use Rattle.cxl_message.specs.declared.channels.Channel.{Channel}
+use Rattle.cxl_message.specs.declared.events.Event.{Event}
+use Rattle.cxl_message.specs.Script.{ScriptValue}
+use Rattle.cxl_message.specs.Setup.{Configuration}
+use Rattle.coherence_model.specs.Driven.{driven_trace}
+use Rattle.worked_runs.specs.Beginnings.{store_and_credits}
+use Rattle.worked_runs.specs.Vocabulary.{answer, begin, cmp, cmp_e, credit, dev, dev_sends, dev_sends_two, finish, give_back, host, host_commits, host_sends, host_sends_two, load, mem_data, one_word, read_any, read_shared, rsp_invalid, script_of, serve, setup_of, snoop, snp_inv, start, take, two_words, word, write_invalid, zeros}
+
+-- its setup
+abbrev pub dirty_eviction_crosses_setup : Configuration
+dirty_eviction_crosses_setup = setup_of 2 2 2 1 2 2 (0 ∷ 1 ∷ [])
+
+-- its script: a host with one way evicts its modified line 0 while the other host wants it
+abbrev pub dirty_eviction_crosses_script : ScriptValue
+dirty_eviction_crosses_script = script_of dirty_eviction_crosses_setup ((word 0 0 1 ∷ load 1 ∷ []) ∷ (word 0 1 2 ∷ []) ∷ []) (0 ∷ 0 ∷ 0 ∷ 0 ∷ 0 ∷ 0 ∷ 0 ∷ 0 ∷ 0 ∷ 0 ∷ 0 ∷ 0 ∷ 1 ∷ 0 ∷ 0 ∷ 0 ∷ 2 ∷ [])
+
+-- its events
+abbrev pub dirty_eviction_crosses_events : List Event
+dirty_eviction_crosses_events =
+    store_and_credits
+    ++ host_sends 1 (begin 1 0 (word 0 1 2)) (read_any 0 0)
+    ∷ dev (take 1 (read_any 0 0))
+    ∷ dev (start 1 0)
+    ∷ dev_sends (snoop 0 0) 0 (snp_inv 0)
+    ∷ host_sends_two 0 (begin 0 1 (load 1)) (write_invalid 0 0 (one_word 1)) (read_shared 1 1)
+    ∷ dev (take 0 (read_shared 1 1))
+    ∷ dev (take 0 (write_invalid 0 0 (one_word 1)))
+    ∷ host 0 (take 0 (snp_inv 0))
+    ∷ dev_sends (serve 0 0) 0 (cmp 0)
+    ∷ host 0 (take 0 (cmp 0))
+    ∷ host_sends 0 (answer 0) (rsp_invalid 0 0)
+    ∷ dev (take 0 (rsp_invalid 0 0))
+    ∷ host_sends 0 (give_back Channel.Ndr) (credit Channel.Ndr)
+    ∷ dev (take 0 (credit Channel.Ndr))
+    ∷ host_sends 0 (give_back Channel.BiSnp) (credit Channel.BiSnp)
+    ∷ dev (take 0 (credit Channel.BiSnp))
+    ∷ dev (start 0 1)
+    ∷ dev_sends_two (finish 0) 1 (cmp_e 0) (mem_data 0 (one_word 1))
+    ∷ host 1 (take 1 (cmp_e 0))
+    ∷ host_commits 1 (take 1 (mem_data 0 (one_word 1))) 1 0 (word 0 1 2) (two_words 1 2)
+    ∷ host_sends 1 (give_back Channel.Ndr) (credit Channel.Ndr)
+    ∷ dev (take 1 (credit Channel.Ndr))
+    ∷ host_sends 1 (give_back Channel.Drs) (credit Channel.Drs)
+    ∷ dev (take 1 (credit Channel.Drs))
+    ∷ dev_sends_two (finish 1) 0 (cmp_e 1) (mem_data 1 zeros)
+    ∷ host 0 (take 0 (cmp_e 1))
+    ∷ host_commits 0 (take 0 (mem_data 1 zeros)) 0 1 (load 1) zeros
+    ∷ []
+
+-- the driven trace of the script is this list of events
+abbrev pub DirtyEvictionCrossesIsDriven : Type 0
+DirtyEvictionCrossesIsDriven = reverse (driven_trace dirty_eviction_crosses_script) ≡ dirty_eviction_crosses_events

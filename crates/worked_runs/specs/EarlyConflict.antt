@@ -1,0 +1,67 @@
+-- The worked trace 'Early conflict': two hosts share line 0, and then both store a word to it at once. Lists of events are oldest first.
+use Rattle.std.specs.Prelude.{List, [], reverse, ◌++◌, ◌∷◌, ◌≡◌}
+use Rattle.cxl_message.specs.declared.channels.Channel.{Channel}
+use Rattle.cxl_message.specs.declared.events.Event.{Event}
+use Rattle.cxl_message.specs.Script.{ScriptValue}
+use Rattle.cxl_message.specs.Setup.{Configuration}
+use Rattle.coherence_model.specs.Driven.{driven_trace}
+use Rattle.worked_runs.specs.Beginnings.{sharing_and_credits}
+use Rattle.worked_runs.specs.Vocabulary.{answer, begin, bi_conflict, cmp, cmp_e, conflict, conflict_ack, credit, dev, dev_sends, dev_sends_two, finish, give_back, host, host_commits, host_sends, load, mem_data, one_word, read_any, rsp_invalid, script_of, serve, setup_of, snoop, snp_inv, start, take, two_words, word, write_back, write_invalid, zeros}
+
+-- its setup
+abbrev pub early_conflict_setup : Configuration
+early_conflict_setup = setup_of 2 4 4 2 2 2 (0 ∷ 1 ∷ 0 ∷ 1 ∷ [])
+
+-- its script: two hosts share line 0, and then both store a word to it at once
+abbrev pub early_conflict_script : ScriptValue
+early_conflict_script = script_of early_conflict_setup ((load 0 ∷ []) ∷ (load 0 ∷ []) ∷ (word 0 0 1 ∷ []) ∷ (word 0 1 2 ∷ []) ∷ []) (0 ∷ 0 ∷ 0 ∷ 0 ∷ 0 ∷ 0 ∷ 0 ∷ 0 ∷ 0 ∷ 0 ∷ 0 ∷ 0 ∷ 0 ∷ 0 ∷ 0 ∷ 0 ∷ 0 ∷ 0 ∷ 0 ∷ 0 ∷ 0 ∷ 0 ∷ 0 ∷ 0 ∷ 0 ∷ 0 ∷ 0 ∷ 0 ∷ 0 ∷ 0 ∷ 0 ∷ 0 ∷ 0 ∷ 1 ∷ [])
+
+-- its events
+abbrev pub early_conflict_events : List Event
+early_conflict_events =
+    sharing_and_credits
+    ++ host_sends 0 (begin 2 0 (word 0 0 1)) (read_any 0 0)
+    ∷ host_sends 1 (begin 3 0 (word 0 1 2)) (read_any 0 0)
+    ∷ dev (take 0 (read_any 0 0))
+    ∷ dev (take 1 (read_any 0 0))
+    ∷ dev (start 0 0)
+    ∷ dev_sends (snoop 1 0) 1 (snp_inv 0)
+    ∷ host 1 (take 1 (snp_inv 0))
+    ∷ host_sends 1 (conflict 0) (bi_conflict 0)
+    ∷ dev (take 1 (bi_conflict 0))
+    ∷ dev_sends (serve 1 0) 1 (conflict_ack 0)
+    ∷ host 1 (take 1 (conflict_ack 0))
+    ∷ host_sends 1 (answer 0) (rsp_invalid 0 0)
+    ∷ dev (take 1 (rsp_invalid 0 0))
+    ∷ host_sends 1 (give_back Channel.Ndr) (credit Channel.Ndr)
+    ∷ dev (take 1 (credit Channel.Ndr))
+    ∷ host_sends 1 (give_back Channel.BiSnp) (credit Channel.BiSnp)
+    ∷ dev (take 1 (credit Channel.BiSnp))
+    ∷ dev_sends_two (finish 0) 0 (cmp_e 0) (mem_data 0 zeros)
+    ∷ host 0 (take 0 (cmp_e 0))
+    ∷ host_commits 0 (take 0 (mem_data 0 zeros)) 2 0 (word 0 0 1) (one_word 1)
+    ∷ host_sends 0 (give_back Channel.Ndr) (credit Channel.Ndr)
+    ∷ dev (take 0 (credit Channel.Ndr))
+    ∷ host_sends 0 (give_back Channel.Drs) (credit Channel.Drs)
+    ∷ dev (take 0 (credit Channel.Drs))
+    ∷ dev (start 1 0)
+    ∷ dev_sends (snoop 0 0) 0 (snp_inv 0)
+    ∷ host 0 (take 0 (snp_inv 0))
+    ∷ host_sends 0 (write_back 0) (write_invalid 2 0 (one_word 1))
+    ∷ dev (take 0 (write_invalid 2 0 (one_word 1)))
+    ∷ dev_sends (serve 0 2) 0 (cmp 2)
+    ∷ host 0 (take 0 (cmp 2))
+    ∷ host_sends 0 (answer 0) (rsp_invalid 0 0)
+    ∷ dev (take 0 (rsp_invalid 0 0))
+    ∷ host_sends 0 (give_back Channel.Ndr) (credit Channel.Ndr)
+    ∷ dev (take 0 (credit Channel.Ndr))
+    ∷ host_sends 0 (give_back Channel.BiSnp) (credit Channel.BiSnp)
+    ∷ dev (take 0 (credit Channel.BiSnp))
+    ∷ dev_sends_two (finish 0) 1 (cmp_e 0) (mem_data 0 (one_word 1))
+    ∷ host 1 (take 1 (cmp_e 0))
+    ∷ host_commits 1 (take 1 (mem_data 0 (one_word 1))) 3 0 (word 0 1 2) (two_words 1 2)
+    ∷ []
+
+-- the driven trace of the script is this list of events
+abbrev pub EarlyConflictIsDriven : Type 0
+EarlyConflictIsDriven = reverse (driven_trace early_conflict_script) ≡ early_conflict_events
