@@ -1,0 +1,17 @@
+pub mod DeviceRows
+pub mod OwnRuns
+pub mod Buffered
+pub mod Blocks
+pub mod Tasks
+pub mod Entries
+pub mod DirectorySteps
+pub mod TaskSteps
+pub mod Kept
+pub mod Rooms
+pub mod RoomSteps
+pub mod Counts
+pub mod Suffice
+pub mod Laws
+pub mod TaskShapes
+pub mod Victims
+pub mod Progress
