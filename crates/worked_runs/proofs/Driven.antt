@@ -15,7 +15,7 @@ use Rattle.worked_runs.specs.ModifiedLineIsRead.{ModifiedLineIsReadIsDriven}
 use Rattle.worked_runs.specs.ModifiedLineIsWanted.{ModifiedLineIsWantedIsDriven}
 use Rattle.worked_runs.specs.Nothing.{NothingIsDriven}
 use Rattle.worked_runs.specs.OldestEntryIsEvicted.{OldestEntryIsEvictedIsDriven}
-use Rattle.worked_runs.specs.OneLoad.{OneLoadIsDriven}
+use Rattle.worked_runs.specs.OneLoad.{OneLoadIsDriven, PickedLoadIsDriven}
 use Rattle.worked_runs.specs.ReservationIsKept.{ReservationIsKeptIsDriven}
 use Rattle.worked_runs.specs.RoomForOneEvent.{RoomForOneEventIsSerial}
 use Rattle.worked_runs.specs.SharedCopyDropped.{SharedCopyDroppedIsDriven}
@@ -33,6 +33,10 @@ nothing = refl
 -- one load
 pub one_load : OneLoadIsDriven
 one_load = refl
+
+-- one load with a large pick
+pub picked_load : PickedLoadIsDriven
+picked_load = refl
 
 -- silent upgrade
 pub silent_upgrade : SilentUpgradeIsDriven

@@ -28,3 +28,11 @@ one_load_events =
 -- the driven trace of the script is this list of events
 abbrev pub OneLoadIsDriven : Type 0
 OneLoadIsDriven = reverse (driven_trace one_load_script) ≡ one_load_events
+
+-- the same script with a pick far above the number of choices
+abbrev pub picked_load_script : ScriptValue
+picked_load_script = script_of one_load_setup ((load 0 ∷ []) ∷ []) (65535 ∷ [])
+
+-- its driven trace is the same: a pick is taken modulo the number of choices
+abbrev pub PickedLoadIsDriven : Type 0
+PickedLoadIsDriven = reverse (driven_trace picked_load_script) ≡ one_load_events

@@ -18,7 +18,7 @@ ghost use Rattle.worked_runs.specs.ModifiedLineIsRead.{ModifiedLineIsReadIsDrive
 ghost use Rattle.worked_runs.specs.ModifiedLineIsWanted.{ModifiedLineIsWantedIsDriven};
 ghost use Rattle.worked_runs.specs.Nothing.{NothingIsDriven};
 ghost use Rattle.worked_runs.specs.OldestEntryIsEvicted.{OldestEntryIsEvictedIsDriven};
-ghost use Rattle.worked_runs.specs.OneLoad.{OneLoadIsDriven};
+ghost use Rattle.worked_runs.specs.OneLoad.{OneLoadIsDriven, PickedLoadIsDriven};
 ghost use Rattle.worked_runs.specs.ReservationIsKept.{ReservationIsKeptIsDriven};
 ghost use Rattle.worked_runs.specs.RoomForOneEvent.{RoomForOneEventIsSerial};
 ghost use Rattle.worked_runs.specs.SharedCopyDropped.{SharedCopyDroppedIsDriven};
@@ -41,6 +41,13 @@ pub fn nothing()
 #[tactic(auto, using(crate::proofs::Driven::one_load))]
 pub fn one_load()
     ensures { OneLoadIsDriven }
+{}
+
+/// One load with the pick 65535, far above the number of choices: a pick is taken modulo that number, so the driven trace is the
+/// same.
+#[tactic(auto, using(crate::proofs::Driven::picked_load))]
+pub fn picked_load()
+    ensures { PickedLoadIsDriven }
 {}
 
 /// Silent upgrade: one host loads line 0 and then stores a word to it. Its driven trace is the one that `specs/` lists.
