@@ -1,0 +1,4 @@
+pub mod OwnRuns
+pub mod HostLaws
+pub mod Writes
+pub mod PlaceLaws
