@@ -8,7 +8,7 @@ use Rattle.cxl_message.specs.declared.identifiers.Bytes64.{Bytes64}
 use Rattle.cxl_message.specs.declared.messages.Message.{Message}
 use Rattle.coherence_model.specs.Emission.{nothing, one_commit, one_send}
 use Rattle.coherence_model.specs.Refusals.{Answer}
-use Rattle.worked_runs.specs.Vocabulary.{answer, out}
+use Rattle.worked_runs.specs.Vocabulary.{out}
 
 -- a cause and the answer to it
 pub record Step : Type 0 where

@@ -1,5 +1,5 @@
 -- The worked trace 'Clean eviction crosses': a host with one way evicts its exclusive line 0 while the other host wants it. Lists of events are oldest first.
-use Rattle.std.specs.Prelude.{List, [], reverse, ◌++◌, ◌∷◌, ◌≡◌}
+use Rattle.std.specs.Prelude.{List, [], replicate, reverse, ◌++◌, ◌∷◌, ◌≡◌}
 use Rattle.cxl_message.specs.declared.channels.Channel.{Channel}
 use Rattle.cxl_message.specs.declared.events.Event.{Event}
 use Rattle.cxl_message.specs.Script.{ScriptValue}
@@ -14,7 +14,7 @@ clean_eviction_crosses_setup = setup_of 2 2 2 1 2 2 (0 ∷ 1 ∷ [])
 
 -- its script: a host with one way evicts its exclusive line 0 while the other host wants it
 abbrev pub clean_eviction_crosses_script : ScriptValue
-clean_eviction_crosses_script = script_of clean_eviction_crosses_setup ((load 0 ∷ load 1 ∷ []) ∷ (word 0 0 1 ∷ []) ∷ []) (0 ∷ 0 ∷ 0 ∷ 0 ∷ 0 ∷ 0 ∷ 0 ∷ 0 ∷ 0 ∷ 0 ∷ 0 ∷ 0 ∷ 1 ∷ 0 ∷ 0 ∷ 0 ∷ 2 ∷ [])
+clean_eviction_crosses_script = script_of clean_eviction_crosses_setup ((load 0 ∷ load 1 ∷ []) ∷ (word 0 0 1 ∷ []) ∷ []) (replicate 12 0 ++ 1 ∷ 0 ∷ 0 ∷ 0 ∷ 2 ∷ [])
 
 -- its events
 abbrev pub clean_eviction_crosses_events : List Event

@@ -1,5 +1,5 @@
 -- The worked trace 'Early conflict': two hosts share line 0, and then both store a word to it at once. Lists of events are oldest first.
-use Rattle.std.specs.Prelude.{List, [], reverse, ◌++◌, ◌∷◌, ◌≡◌}
+use Rattle.std.specs.Prelude.{List, [], replicate, reverse, ◌++◌, ◌∷◌, ◌≡◌}
 use Rattle.cxl_message.specs.declared.channels.Channel.{Channel}
 use Rattle.cxl_message.specs.declared.events.Event.{Event}
 use Rattle.cxl_message.specs.Script.{ScriptValue}
@@ -14,7 +14,7 @@ early_conflict_setup = setup_of 2 4 4 2 2 2 (0 ∷ 1 ∷ 0 ∷ 1 ∷ [])
 
 -- its script: two hosts share line 0, and then both store a word to it at once
 abbrev pub early_conflict_script : ScriptValue
-early_conflict_script = script_of early_conflict_setup ((load 0 ∷ []) ∷ (load 0 ∷ []) ∷ (word 0 0 1 ∷ []) ∷ (word 0 1 2 ∷ []) ∷ []) (0 ∷ 0 ∷ 0 ∷ 0 ∷ 0 ∷ 0 ∷ 0 ∷ 0 ∷ 0 ∷ 0 ∷ 0 ∷ 0 ∷ 0 ∷ 0 ∷ 0 ∷ 0 ∷ 0 ∷ 0 ∷ 0 ∷ 0 ∷ 0 ∷ 0 ∷ 0 ∷ 0 ∷ 0 ∷ 0 ∷ 0 ∷ 0 ∷ 0 ∷ 0 ∷ 0 ∷ 0 ∷ 0 ∷ 1 ∷ [])
+early_conflict_script = script_of early_conflict_setup ((load 0 ∷ []) ∷ (load 0 ∷ []) ∷ (word 0 0 1 ∷ []) ∷ (word 0 1 2 ∷ []) ∷ []) (replicate 33 0 ++ 1 ∷ [])
 
 -- its events
 abbrev pub early_conflict_events : List Event

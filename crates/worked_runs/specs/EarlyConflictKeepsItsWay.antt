@@ -1,5 +1,5 @@
 -- The worked trace 'Early conflict keeps its way': two hosts with one way are in an early conflict, and then the second evicts the line that it got. Lists of events are oldest first.
-use Rattle.std.specs.Prelude.{List, [], reverse, ◌++◌, ◌∷◌, ◌≡◌}
+use Rattle.std.specs.Prelude.{List, [], replicate, reverse, ◌++◌, ◌∷◌, ◌≡◌}
 use Rattle.cxl_message.specs.declared.channels.Channel.{Channel}
 use Rattle.cxl_message.specs.declared.events.Event.{Event}
 use Rattle.cxl_message.specs.Script.{ScriptValue}
@@ -14,7 +14,7 @@ early_conflict_keeps_its_way_setup = setup_of 2 2 2 1 2 2 (0 ∷ 1 ∷ 0 ∷ 1 �
 
 -- its script: two hosts with one way are in an early conflict, and then the second evicts the line that it got
 abbrev pub early_conflict_keeps_its_way_script : ScriptValue
-early_conflict_keeps_its_way_script = script_of early_conflict_keeps_its_way_setup ((load 0 ∷ []) ∷ (load 0 ∷ []) ∷ (word 0 0 1 ∷ []) ∷ (word 0 1 2 ∷ load 1 ∷ []) ∷ []) (0 ∷ 0 ∷ 0 ∷ 0 ∷ 0 ∷ 0 ∷ 0 ∷ 0 ∷ 0 ∷ 0 ∷ 0 ∷ 0 ∷ 0 ∷ 0 ∷ 0 ∷ 0 ∷ 0 ∷ 0 ∷ 0 ∷ 0 ∷ 0 ∷ 0 ∷ 0 ∷ 0 ∷ 0 ∷ 0 ∷ 0 ∷ 0 ∷ 0 ∷ 0 ∷ 0 ∷ 0 ∷ 0 ∷ 1 ∷ [])
+early_conflict_keeps_its_way_script = script_of early_conflict_keeps_its_way_setup ((load 0 ∷ []) ∷ (load 0 ∷ []) ∷ (word 0 0 1 ∷ []) ∷ (word 0 1 2 ∷ load 1 ∷ []) ∷ []) (replicate 33 0 ++ 1 ∷ [])
 
 -- its events
 abbrev pub early_conflict_keeps_its_way_events : List Event

@@ -1,5 +1,5 @@
 -- The worked trace 'Reservation is kept': two hosts want lines under a filter of one entry, and the eviction is for the second. Lists of events are oldest first.
-use Rattle.std.specs.Prelude.{List, [], reverse, ◌++◌, ◌∷◌, ◌≡◌}
+use Rattle.std.specs.Prelude.{List, [], replicate, reverse, ◌++◌, ◌∷◌, ◌≡◌}
 use Rattle.cxl_message.specs.declared.channels.Channel.{Channel}
 use Rattle.cxl_message.specs.declared.events.Event.{Event}
 use Rattle.cxl_message.specs.Script.{ScriptValue}
@@ -14,7 +14,7 @@ reservation_is_kept_setup = setup_of 2 3 1 2 2 2 (0 ∷ 1 ∷ [])
 
 -- its script: two hosts want lines under a filter of one entry, and the eviction is for the second
 abbrev pub reservation_is_kept_script : ScriptValue
-reservation_is_kept_script = script_of reservation_is_kept_setup ((load 0 ∷ load 2 ∷ []) ∷ (load 1 ∷ []) ∷ []) (0 ∷ 0 ∷ 0 ∷ 0 ∷ 0 ∷ 0 ∷ 0 ∷ 0 ∷ 0 ∷ 0 ∷ 0 ∷ 0 ∷ 1 ∷ 0 ∷ 0 ∷ 1 ∷ [])
+reservation_is_kept_script = script_of reservation_is_kept_setup ((load 0 ∷ load 2 ∷ []) ∷ (load 1 ∷ []) ∷ []) (replicate 12 0 ++ 1 ∷ 0 ∷ 0 ∷ 1 ∷ [])
 
 -- its events
 abbrev pub reservation_is_kept_events : List Event

@@ -21,7 +21,6 @@ use Rattle.cxl_message.specs.declared.opcodes.SnpType.{SnpType}
 use Rattle.cxl_message.specs.declared.opcodes.Span.{Span}
 use Rattle.cxl_message.specs.Script.{ScriptValue}
 use Rattle.cxl_message.specs.Setup.{Configuration}
-use Rattle.coherence_model.specs.Cache.{ways}
 use Rattle.coherence_model.specs.Traces.{device}
 
 -- a line of memory by its number

@@ -1,5 +1,5 @@
 -- The worked trace 'Whole line stores under early conflict': two hosts share line 0, and then both store the whole of it at once. Lists of events are oldest first.
-use Rattle.std.specs.Prelude.{List, [], reverse, ◌++◌, ◌∷◌, ◌≡◌}
+use Rattle.std.specs.Prelude.{List, [], replicate, reverse, ◌++◌, ◌∷◌, ◌≡◌}
 use Rattle.cxl_message.specs.declared.channels.Channel.{Channel}
 use Rattle.cxl_message.specs.declared.events.Event.{Event}
 use Rattle.cxl_message.specs.Script.{ScriptValue}
@@ -14,7 +14,7 @@ whole_line_stores_under_early_conflict_setup = setup_of 2 4 4 2 2 2 (0 ∷ 1 ∷
 
 -- its script: two hosts share line 0, and then both store the whole of it at once
 abbrev pub whole_line_stores_under_early_conflict_script : ScriptValue
-whole_line_stores_under_early_conflict_script = script_of whole_line_stores_under_early_conflict_setup ((load 0 ∷ []) ∷ (load 0 ∷ []) ∷ (whole 0 (filled 0x11) ∷ []) ∷ (whole 0 (filled 0x22) ∷ []) ∷ []) (0 ∷ 0 ∷ 0 ∷ 0 ∷ 0 ∷ 0 ∷ 0 ∷ 0 ∷ 0 ∷ 0 ∷ 0 ∷ 0 ∷ 0 ∷ 0 ∷ 0 ∷ 0 ∷ 0 ∷ 0 ∷ 0 ∷ 0 ∷ 0 ∷ 0 ∷ 0 ∷ 0 ∷ 0 ∷ 0 ∷ 0 ∷ 0 ∷ 0 ∷ 0 ∷ 0 ∷ 0 ∷ 0 ∷ 1 ∷ [])
+whole_line_stores_under_early_conflict_script = script_of whole_line_stores_under_early_conflict_setup ((load 0 ∷ []) ∷ (load 0 ∷ []) ∷ (whole 0 (filled 0x11) ∷ []) ∷ (whole 0 (filled 0x22) ∷ []) ∷ []) (replicate 33 0 ++ 1 ∷ [])
 
 -- its events
 abbrev pub whole_line_stores_under_early_conflict_events : List Event
