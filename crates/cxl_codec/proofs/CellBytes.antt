@@ -1,5 +1,5 @@
 -- The bytes of cells that all have one label, and bytes that are put one part after the other.
-use Rattle.std.proofs.Common.{◌≡◌, ℕ, List, [], ◌∷◌, ◌++◌, refl, ap, sym, ◌∙◌, append_assoc}
+use Rattle.std.proofs.Common.{◌≡◌, ℕ, List, [], ◌∷◌, ◌++◌, refl, ap, ◌∙◌, append_assoc}
 use Rattle.std.specs.Prelude.{map}
 use Rattle.cxl_codec.specs.declared.fields.FieldName.{FieldName}
 use Rattle.cxl_codec.specs.Cells.{bytes_of, field, free}

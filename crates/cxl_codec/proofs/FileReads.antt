@@ -1,6 +1,6 @@
 -- Headers, openings and end records: what is read is spelled so, and what is spelled is read again.
-use Rattle.std.proofs.Common.{◌≡◌, ℕ, zero, suc, ◌+◌, ◌-◌, ◌*◌, ◌^◌, ◌<◌, ◌≤◌, Bool, true, false, List, [], ◌∷◌, ◌++◌, length, Option, Some, None, Result, Ok, Err, refl, sym, ap, subst, ◌∙◌, arith, rules, tests}
-use Rattle.std.specs.Prelude.{IsTrue, ◌&&◌, nat_lt, map}
+use Rattle.std.proofs.Common.{◌≡◌, ℕ, ◌+◌, ◌-◌, ◌*◌, ◌^◌, ◌<◌, ◌≤◌, List, [], ◌∷◌, ◌++◌, length, Some, Ok, refl, sym, ap, subst, ◌∙◌, arith, rules, tests}
+use Rattle.std.specs.Prelude.{IsTrue, nat_lt, map}
 use Rattle.std.specs.List.{list_all, AllByRecursion}
 use Rattle.std.specs.Int.{w16, w64, byte_at}
 use Rattle.std.proofs.lemmas.Bool.{lt-ltb, ltb-true, and_parts, and_from}
@@ -8,15 +8,15 @@ use Rattle.cxl_message.specs.declared.identifiers.Line.{Line}
 use Rattle.cxl_message.specs.declared.identifiers.Bytes64.{Bytes64}
 use Rattle.cxl_message.specs.Setup.{Configuration, IsWithinLimits}
 use Rattle.cxl_codec.specs.declared.fields.FieldName.{FieldName}
-use Rattle.cxl_codec.specs.Cells.{Cell, field, free, number, payload}
-use Rattle.cxl_codec.specs.Header.{magic_cells, entries_cells, stream_cells, header_cells}
+use Rattle.cxl_codec.specs.Cells.{field, free, number}
+use Rattle.cxl_codec.specs.Header.{magic_cells, stream_cells, header_cells}
 use Rattle.cxl_codec.specs.Openings.{opening_cells, OpeningFits}
 use Rattle.cxl_codec.specs.EndRecord.{end_cells, EndFits}
-use Rattle.cxl_codec.specs.Reading.{Read, number_at, field_of, within, run_at}
+use Rattle.cxl_codec.specs.Reading.{field_of, within}
 use Rattle.cxl_codec.specs.ReadingFiles.{magic_at, streams_at, header_at, opening_at, end_at}
 use Rattle.cxl_codec.proofs.Meanings.{found}
-use Rattle.cxl_codec.proofs.Outcomes.{IsBytes, Sound, After, IsRead, Spells, Meets, then_sound, done_sound, ends_sound, then_read, done_read, ends_read}
-use Rattle.cxl_codec.proofs.Parts.{Within, within_meets, field_meets, IsTable, within_found, wide64, number_meets, payload_meets, free_meets, IsRun, run_meets}
+use Rattle.cxl_codec.proofs.Outcomes.{IsBytes, Sound, IsRead, Spells, Meets, then_sound, ends_sound, then_read, ends_read}
+use Rattle.cxl_codec.proofs.Parts.{Within, within_meets, field_meets, within_found, wide64, number_meets, payload_meets, free_meets, run_meets}
 use Rattle.cxl_codec.proofs.MessageReads.{tag_meets}
 
 -- a byte that is fixed
@@ -30,6 +30,7 @@ exact_meets which v lt = field_meets which (λ n. n ≡ v) (λ n. v) (within v v
 
 -- ---- openings and ends
 
+-- an opening that is read is spelled so
 opening_sound : Sound (Spells OpeningFits opening_cells) opening_at
 unfolding opening_at
 opening_sound =
@@ -37,6 +38,7 @@ opening_sound =
     then_sound _ _ _ tag_meets _ _ (λ line l.
     ends_sound _ _ _ payload_meets _ (λ value. (record { 0 = line }, value)) (λ value v. (record { line = l; bytes = v }, refl))))
 
+-- an opening that is spelled is read again
 opening_read : (o : Line × Bytes64) → OpeningFits o → IsRead opening_at o (opening_cells o)
 unfolding opening_at
 opening_read o fits =
@@ -44,21 +46,25 @@ opening_read o fits =
     (then_read _ _ _ (tag_meets.complete o.0.0 fits.line) _ _ _
     (ends_read _ _ _ (payload_meets.complete o.1 fits.bytes) (λ value. (record { 0 = o.0.0 }, value))))
 
+-- the reader of openings meets the grammar
 pub opening_meets : Meets OpeningFits opening_cells opening_at
 opening_meets = record { sound = opening_sound; complete = opening_read }
 
+-- an end record that is read is spelled so
 end_sound : Sound (Spells EndFits end_cells) end_at
 unfolding end_at
 end_sound =
     then_sound _ _ _ (exact_meets FieldName.Agent 0xff (omega arith)) _ _ (λ _ _.
     ends_sound _ _ _ (number_meets w64 (2 ^ 64) wide64) _ (λ count. count) (λ count c. (c, refl)))
 
+-- an end record that is spelled is read again
 end_read : (count : ℕ) → EndFits count → IsRead end_at count (end_cells count)
 unfolding end_at
 end_read count fits =
     then_read _ _ _ ((exact_meets FieldName.Agent 0xff (omega arith)).complete 0xff refl) _ _ _
     (ends_read _ _ _ ((number_meets w64 (2 ^ 64) wide64).complete count fits) (λ count. count))
 
+-- the reader of end records meets the grammar
 pub end_meets : Meets EndFits end_cells end_at
 end_meets = record { sound = end_sound; complete = end_read }
 
@@ -68,6 +74,7 @@ end_meets = record { sound = end_sound; complete = end_read }
 IsMagic : ℕ → Type 0
 IsMagic n = n ≡ 0x54
 
+-- the reader of the first four bytes meets the grammar
 magic_meets : Meets IsMagic (λ n. magic_cells) magic_at
 unfolding IsMagic magic_at
 magic_meets = record {
@@ -87,6 +94,7 @@ magic_meets = record {
 abbrev StreamsFit : ℕ → List ℕ → Type 0
 StreamsFit most hosts = (length hosts ≤ 64) × AllByRecursion (λ h. h ≤ most) hosts
 
+-- the reader of the streams' hosts meets the grammar
 streams_meets : (hosts : ℕ) → hosts ≤ 16 → Meets (StreamsFit (hosts - 1)) stream_cells (streams_at hosts)
 unfolding streams_at
 streams_meets hosts le = record {
@@ -104,14 +112,16 @@ hosts_below : (n : ℕ) (hosts : List ℕ) → 1 ≤ n → AllByRecursion (λ h.
 hosts_below n [] least fits = refl
 hosts_below n (h ∷ hosts) least fits = and_from _ _ (lt-ltb h n (omega (arith, fits.0))) (hosts_below n hosts least fits.1)
 
+-- and back, from the test
 hosts_from : (n : ℕ) (hosts : List ℕ) → IsTrue (list_all (λ h. nat_lt h n) hosts) → AllByRecursion (λ h. h ≤ n - 1) hosts
 hosts_from n [] fits = tt
-hosts_from n (h ∷ hosts) fits = let parts = and_parts _ _ fits in (omega (arith, ltb-true h n parts.0), hosts_from n hosts parts.1)
+hosts_from n (h ∷ hosts) fits = let parts : IsTrue (nat_lt h n) × IsTrue (list_all (λ k. nat_lt k n) hosts) = and_parts _ _ fits in (omega (arith, ltb-true h n parts.0), hosts_from n hosts parts.1)
 
 -- the setup whose header has these numbers
 setup_of : (hosts lines high low ways tags credits : ℕ) (streams : List ℕ) → Configuration
 setup_of hosts lines high low ways tags credits streams = record { hosts = hosts; lines = lines + 1; entries = 256 * high + low + 1; ways = ways + 1; tags = tags; credits = credits; streams = streams }
 
+-- numbers that are read give a setup within its limits
 within_limits : (hosts lines high low ways tags credits : ℕ) (streams : List ℕ) → Within 1 16 hosts → lines < 2 ^ 16 → Within 0 15 high → low < 256 → ways < 256 → Within 2 64 tags → Within 2 64 credits
     → StreamsFit (hosts - 1) streams → IsWithinLimits (setup_of hosts lines high low ways tags credits streams)
 unfolding setup_of
@@ -126,6 +136,7 @@ within_limits hosts lines high low ways tags credits streams h l i o w t c s = r
   stream_hosts = hosts_below hosts streams h.0 s.1;
 }
 
+-- the header of that setup has these cells
 cells_of_setup : (hosts lines high low ways tags credits : ℕ) (streams : List ℕ) → high < 256 → low < 256 → header_cells (setup_of hosts lines high low ways tags credits streams)
     ≡ magic_cells ++ field FieldName.Version 1 ∷ field FieldName.Hosts hosts ∷ number w16 lines ++ field FieldName.Entries high ∷ free low ∷ free ways ∷ field FieldName.Tags tags ∷ field FieldName.Credits credits ∷ stream_cells streams
 unfolding setup_of
@@ -136,6 +147,7 @@ cells_of_setup hosts lines high low ways tags credits streams i o =
     let e4 : ways + 1 - 1 ≡ ways = omega arith in
     rw (e1, e2, e3, e4) refl
 
+-- a header that is read is spelled so
 header_sound : Sound (Spells IsWithinLimits header_cells) header_at
 unfolding header_at setup_of
 header_sound =
@@ -160,6 +172,7 @@ rebuilt s fits =
     let e3 : s.ways - 1 + 1 ≡ s.ways = omega (arith, fits.ways.0) in
     rw (e1, e2, e3) refl
 
+-- a header that is spelled is read again
 header_read : (s : Configuration) → IsWithinLimits s → IsRead header_at s (header_cells s)
 unfolding header_at setup_of IsMagic
 header_read s fits =
@@ -177,6 +190,7 @@ header_read s fits =
     (then_read _ _ _ ((within_meets FieldName.Credits 2 64 (omega arith) (omega arith)).complete s.credits fits.credits) _ _ _
     (ends_read _ _ _ ((streams_meets s.hosts fits.hosts.1).complete s.streams (fits.streams, hosts_from s.hosts s.streams fits.stream_hosts)) (λ streams. setup_of s.hosts (s.lines - 1) high low (s.ways - 1) s.tags s.credits streams)))))))))))
 
+-- the reader of headers meets the grammar
 pub header_meets : Meets IsWithinLimits header_cells header_at
 header_meets = record { sound = header_sound; complete = header_read }
 

@@ -4,7 +4,9 @@ pub mod Outcomes
 pub mod Parts
 pub mod Tables
 pub mod MessageReads
+pub mod ActReads
 pub mod EventReads
 pub mod FileReads
 pub mod Meanings
-pub mod Laws
+pub mod OneAnswer
+pub mod TraceReads

@@ -1,13 +1,11 @@
 -- What a reader that meets the grammar answers: records, cuts and first wrong bytes.
-use Rattle.std.proofs.Common.{◌≡◌, ℕ, zero, suc, ◌+◌, ◌-◌, ◌<◌, ◌≤◌, Bool, true, false, List, [], ◌∷◌, ◌++◌, length, get_or, take, drop, Option, Some, None, Result, Ok, Err, refl, sym, ap, subst, ◌∙◌, append_assoc, arith}
-use Rattle.std.specs.Prelude.{IsErr, All, slice_get, option_map}
-use Rattle.std.proofs.lemmas.List.{append-nil, length-append, length-map, take_at, drop_at, take-append-drop, take_all}
+use Rattle.std.proofs.Common.{◌≡◌, ℕ, suc, ◌+◌, ◌-◌, ◌<◌, ◌≤◌, List, [], ◌∷◌, ◌++◌, length, get_or, take, drop, Some, Ok, Err, refl, sym, ap, subst, ◌∙◌, append_assoc, arith}
+use Rattle.std.specs.Prelude.{IsErr, slice_get}
+use Rattle.std.proofs.lemmas.List.{append-nil, length-append, length-map, take_at, take-append-drop}
 use Rattle.std.proofs.lemmas.List.Elements.{All-from_get_or}
 use Rattle.cxl_codec.specs.declared.faults.Fault.{Fault}
-use Rattle.cxl_codec.specs.declared.fields.FieldName.{FieldName}
-use Rattle.cxl_codec.specs.declared.refusals.DecodeRefusal.{DecodeRefusal}
-use Rattle.cxl_codec.specs.Cells.{Label, kind_byte, named, unnamed, Cell, bytes_of}
-use Rattle.cxl_codec.specs.Grammar.{BeginsWith, IsCutShort, Expects, IsFirstWrong, Refuses}
+use Rattle.cxl_codec.specs.Cells.{Label, kind_byte, named, Cell, bytes_of}
+use Rattle.cxl_codec.specs.Grammar.{BeginsWith, IsCutShort, IsFirstWrong, Refuses}
 use Rattle.cxl_codec.specs.Refusals.{LeavesAtMost, refusal_of}
 use Rattle.cxl_codec.specs.Reading.{Read}
 use Rattle.cxl_codec.proofs.Outcomes.{IsBytes, Found, Cut, Wrong, Outcome, Spells, Meets, bytes_of-append}
@@ -16,9 +14,11 @@ use Rattle.cxl_codec.proofs.Outcomes.{IsBytes, Found, Cut, Wrong, Outcome, Spell
 pub bytes_from : (bytes : List ℕ) → ((i : ℕ) → get_or bytes i 0 < 256) → IsBytes bytes
 bytes_from bytes h = All-from_get_or (λ b. b < 256) bytes 0 (λ i lt. h i)
 
+-- cells have as many bytes
 pub length-bytes_of : (cells : List Cell) → length (bytes_of cells) ≡ length cells
 length-bytes_of cells = length-map cells (λ (c : Cell). c.byte)
 
+-- the cell behind a front
 cell_at : (front : List Cell) (here : Cell) (after : List Cell) → slice_get (front ++ here ∷ after) (length front) ≡ Some here
 cell_at [] here after = refl
 cell_at (c ∷ front) here after = cell_at front here after
@@ -34,6 +34,7 @@ module _ {V : Type 0} (Fits : V → Type 0) (cells_of : V → List Cell) (reads 
   pub read_again : (v : V) → Fits v → (rest : List ℕ) → reads (bytes_of (cells_of v) ++ rest) ≡ Ok (v, rest)
   read_again v fits rest = (meets.complete v fits).again rest
 
+  -- what is spelled is read where nothing follows
   read_alone : (v : V) → Fits v → reads (bytes_of (cells_of v)) ≡ Ok (v, [])
   read_alone v fits = ap reads (sym (append-nil (bytes_of (cells_of v)))) ∙ read_again v fits []
 
@@ -49,6 +50,7 @@ module _ {V : Type 0} (Fits : V → Type 0) (cells_of : V → List Cell) (reads 
         whole = whole ∙ length-bytes_of (cells_of v);
       }
 
+  -- bytes that end too early
   cut_is : (bytes : List ℕ) → Cut (Spells Fits cells_of) bytes → IsCutShort Fits cells_of bytes
   cut_is bytes o = record { value = o.value; fits = o.spelled.0; next = o.next; more = o.more; spelled = ap bytes_of (sym o.spelled.1) ∙ o.goes_on }
 
@@ -77,6 +79,7 @@ module _ {V : Type 0} (Fits : V → Type 0) (cells_of : V → List Cell) (reads 
             absurd cc;
       }
 
+  -- a byte that is refused is one of the bytes
   wrong_within : (bytes : List ℕ) (left : ℕ) (label : Label) → Wrong (Spells Fits cells_of) reads bytes left label → left ≤ length bytes
   wrong_within bytes left label o = omega (arith, o.count, ap (length {A = ℕ}) o.parts, length-append (bytes_of o.front) (o.byte ∷ o.rest))
 
@@ -84,6 +87,7 @@ module _ {V : Type 0} (Fits : V → Type 0) (cells_of : V → List Cell) (reads 
   pub found : (bytes : List ℕ) → IsBytes bytes → (v : V) (rest : List ℕ) → reads bytes ≡ Ok (v, rest) → BeginsWith Fits cells_of bytes v (length bytes - length rest)
   found bytes each v rest e = found_is bytes v rest (subst (λ (r : Read V). Outcome (Spells Fits cells_of) reads bytes r) e (meets.sound bytes each))
 
+  -- each fault, by its outcome
   refused_by : (bytes : List ℕ) (fault : Fault) → Outcome (Spells Fits cells_of) reads bytes (Err fault) → Refuses Fits cells_of bytes (refusal_of (length bytes) fault) × LeavesAtMost (length bytes) fault
   refused_by bytes Fault.Short o = (cut_is bytes o, tt)
   refused_by bytes (Fault.Kind left) o = (wrong_is bytes left kind_byte o, wrong_within bytes left kind_byte o)

@@ -1,5 +1,5 @@
 -- Messages: what is read is spelled so, and what is spelled is read again.
-use Rattle.std.proofs.Common.{◌≡◌, ℕ, zero, suc, ◌^◌, ◌<◌, ◌≤◌, List, [], ◌∷◌, ◌++◌, length, Result, Ok, Err, refl, sym, ap, subst, ◌∙◌, arith}
+use Rattle.std.proofs.Common.{◌≡◌, ℕ, zero, suc, ◌^◌, ◌<◌, List, [], ◌∷◌, ◌++◌, refl, ap, arith}
 use Rattle.std.specs.Prelude.{IsTrue, map, replicate}
 use Rattle.std.specs.Int.{w16, w32}
 use Rattle.std.proofs.lemmas.Bool.{lt-ltb, ltb-true}
@@ -9,7 +9,7 @@ use Rattle.cxl_codec.specs.declared.fields.FieldName.{FieldName}
 use Rattle.cxl_codec.specs.declared.kinds.MessageKind.{MessageKind}
 use Rattle.cxl_codec.specs.Cells.{Cell, kind, field, number}
 use Rattle.cxl_codec.specs.Kinds.{message_kind_code}
-use Rattle.cxl_codec.specs.Messages.{message_cells, zero_payload, MessageInRange}
+use Rattle.cxl_codec.specs.Messages.{message_cells, MessageInRange}
 use Rattle.cxl_codec.specs.Reading.{number_at, field_of, within, run_at}
 use Rattle.cxl_codec.specs.ReadingEvents.{message_fields_at, message_at}
 use Rattle.cxl_codec.proofs.Outcomes.{Sound, After, IsRead, Spells, Meets, then_sound, ends_sound, then_read, ends_read}
@@ -20,15 +20,19 @@ use Rattle.cxl_codec.proofs.Tables.{message_kind_meets, meta_meets, snoop_type_m
 abbrev pub MessageFits : Message → Type 0
 MessageFits m = IsTrue (message_formed m) × MessageInRange m
 
+-- a Tag, a BITag or another number of 16 bits
 pub tag_meets : Meets (λ n. n < 2 ^ 16) (number w16) (number_at w16)
 tag_meets = number_meets w16 (2 ^ 16) wide16
 
+-- a line, an index or another number of 32 bits
 pub line_meets : Meets (λ n. n < 2 ^ 32) (number w32) (number_at w32)
 line_meets = number_meets w32 (2 ^ 32) wide32
 
+-- the line of a snoop's answer
 low_meets : Meets (Within 0 3) (λ n. field FieldName.LowAddr n ∷ []) (field_of FieldName.LowAddr (within 0 3))
 low_meets = within_meets FieldName.LowAddr 0 3 (omega arith) (omega arith)
 
+-- the payload of a BIConflict
 zeros_meets : Meets (IsRun 0 64) (λ bs. map (field FieldName.Payload) bs) (run_at FieldName.Payload 0 64)
 zeros_meets = run_meets FieldName.Payload 0 (omega arith) 64
 
@@ -47,6 +51,7 @@ zeros_fit : (n : ℕ) → IsRun 0 n (replicate n 0)
 zeros_fit zero = (refl, tt)
 zeros_fit (suc n) = let fits = zeros_fit n in (ap suc fits.0, (omega arith, fits.1))
 
+-- what is read after the kind byte of a message
 fields_sound : (k : MessageKind) → Sound (After (Spells MessageFits message_cells) (kind (message_kind_code k) ∷ [])) (message_fields_at k)
 unfolding message_fields_at
 fields_sound (MessageKind.Req op) =
@@ -79,10 +84,12 @@ fields_sound (MessageKind.BiSnp op) =
 fields_sound MessageKind.Credit =
     ends_sound _ _ _ channel_meets _ (λ channel. Message.Credit channel) (λ channel c. ((c, tt), refl))
 
+-- a message that is read is spelled so
 message_sound : Sound (Spells MessageFits message_cells) message_at
 unfolding message_at
 message_sound = then_sound _ _ _ message_kind_meets _ _ (λ k _. fields_sound k)
 
+-- a message that is spelled is read again
 message_read : (m : Message) → MessageFits m → IsRead message_at m (message_cells m)
 unfolding message_at message_fields_at
 message_read (Message.Req op meta snp tag line) fits =
@@ -123,5 +130,6 @@ message_read (Message.Credit channel) fits =
     then_read _ _ _ (message_kind_meets.complete MessageKind.Credit tt) _ _ _
     (ends_read _ _ _ (channel_meets.complete channel fits.0) (λ channel. Message.Credit channel))
 
+-- the reader of messages meets the grammar
 pub message_meets : Meets MessageFits message_cells message_at
 message_meets = record { sound = message_sound; complete = message_read }

@@ -1,10 +1,8 @@
 -- What a reader of one part of a record has to meet, and that a reader of two parts, one after the other, then meets it.
-use Rattle.std.proofs.Common.{◌≡◌, ℕ, zero, suc, ◌+◌, ◌<◌, ◌≤◌, List, [], ◌∷◌, ◌++◌, length, get_or, Result, Ok, Err, refl, sym, ap, subst, ◌∙◌, append_assoc, arith, inl, inr, ◌⊎◌}
-use Rattle.std.specs.Prelude.{IsErr, All, map}
+use Rattle.std.proofs.Common.{◌≡◌, ℕ, suc, ◌+◌, ◌<◌, List, [], ◌∷◌, ◌++◌, length, Ok, Err, refl, sym, ap, subst, ◌∙◌, append_assoc, arith, inl, inr, ◌⊎◌}
+use Rattle.std.specs.Prelude.{IsErr, All}
 use Rattle.std.proofs.lemmas.List.{append-nil, map-append, length-append, get_or-append-add}
-use Rattle.std.proofs.lemmas.List.Elements.{All-same}
 use Rattle.cxl_codec.specs.declared.faults.Fault.{Fault}
-use Rattle.cxl_codec.specs.declared.fields.FieldName.{FieldName}
 use Rattle.cxl_codec.specs.Cells.{Label, kind_byte, named, unnamed, Cell, bytes_of}
 use Rattle.cxl_codec.specs.Reading.{Read, ◌>>=◌}
 
@@ -12,6 +10,7 @@ use Rattle.cxl_codec.specs.Reading.{Read, ◌>>=◌}
 abbrev pub IsBytes : List ℕ → Type 0
 IsBytes bytes = All (λ b. b < 256) bytes
 
+-- what is left of bytes are bytes
 pub IsBytes-rest : (front rest : List ℕ) → IsBytes (front ++ rest) → IsBytes rest
 IsBytes-rest front rest h k d lt =
     subst (λ (b : ℕ). b < 256) (get_or-append-add front rest k d) (h (length front + k) d (omega (arith, length-append front rest)))
@@ -47,6 +46,7 @@ pub record Wrong {X : Type 0} (S : X → List Cell → Type 0) (reads : List ℕ
   pub count : left ≡ suc (length rest)
   pub refuses : (more : List ℕ) → IsErr (reads (bytes_of front ++ byte ∷ more))
 
+-- what each answer has to mean
 abbrev pub Outcome : {X : Type 0} → (X → List Cell → Type 0) → (List ℕ → Read X) → List ℕ → Read X → Type 0
 Outcome S reads bytes (Ok x) = Found S bytes x.0 x.1
 Outcome S reads bytes (Err Fault.Short) = Cut S bytes
@@ -79,22 +79,27 @@ pub record IsRead {X : Type 0} (reads : List ℕ → Read X) (value : X) (cells 
 abbrev pub Spells : {X : Type 0} → (X → Type 0) → (X → List Cell) → X → List Cell → Type 0
 Spells Fits cells_of value cells = Fits value × (cells ≡ cells_of value)
 
+-- a reader that meets the grammar: what it reads is spelled so, and what is spelled it reads
 pub record Meets {X : Type 0} (Fits : X → Type 0) (cells_of : X → List Cell) (reads : List ℕ → Read X) : Type 0 where
   pub sound : Sound (Spells Fits cells_of) reads
   pub complete : (value : X) → Fits value → IsRead reads value (cells_of value)
 
 -- ---- one part after another
 
+-- the bytes of two parts
 pub bytes_of-append : (cs ds : List Cell) → bytes_of (cs ++ ds) ≡ bytes_of cs ++ bytes_of ds
 bytes_of-append cs ds = map-append (λ (c : Cell). c.byte) cs ds
 
+-- the bytes of two parts, with what follows
 bytes_of-both : (cs ds : List Cell) (rest : List ℕ) → bytes_of (cs ++ ds) ++ rest ≡ bytes_of cs ++ (bytes_of ds ++ rest)
 bytes_of-both cs ds rest = ap (λ (front : List ℕ). front ++ rest) (bytes_of-append cs ds) ∙ append_assoc (bytes_of cs) (bytes_of ds) rest
 
+-- after a fault nothing is read
 err_then : {A X : Type 0} (read : Read A) (k : A × List ℕ → Read X) → IsErr read → IsErr (read >>= k)
 err_then (Ok x) k h = absurd cc
 err_then (Err e) k h = h
 
+-- a fault of the first part is one of the whole
 refused_then : {A X : Type 0} (read : Read A) (k : A × List ℕ → Read X) (label : Label) (left : ℕ) → Refused read label left → Refused (read >>= k) label left
 refused_then read k kind_byte left h = rw h refl
 refused_then read k (named which) left h = rw h refl
@@ -125,6 +130,7 @@ module _ {A X : Type 0} (S : X → List Cell → Type 0) (reads : List ℕ → R
     refuses = λ more. rw (bytes_of-both cells o.front (o.byte ∷ more), again (bytes_of o.front ++ o.byte ∷ more)) (o.refuses more);
   }
 
+  -- an outcome behind a part that was read
   lifts : (a : A) (cells : List Cell) (rest : List ℕ) (read : Read X) → ((more : List ℕ) → reads (bytes_of cells ++ more) ≡ Ok (a, more))
       → Outcome (After S cells) (λ bytes. k (a, bytes)) rest read → Outcome S (λ bytes. reads bytes >>= k) (bytes_of cells ++ rest) read
   lifts a cells rest (Ok x) again o = record {
@@ -149,6 +155,7 @@ module _ {A X : Type 0} (Fits : A → Type 0) (cells_of : A → List Cell) (read
   follows : (a : A) → Fits a → (x : X) × (cells : List Cell) × S x (cells_of a ++ cells)
   follows a fits = inhabited (After S (cells_of a)) (λ bytes. k (a, bytes)) [] (k (a, [])) (then a fits [] (λ i d lt. absurd (omega arith)))
 
+  -- a byte that the first part refuses is refused by the whole
   wrong_first : (bytes : List ℕ) (left : ℕ) (label : Label) → Wrong (Spells Fits cells_of) reads bytes left label → Wrong S (λ bytes. reads bytes >>= k) bytes left label
   wrong_first bytes left label o =
       let x = follows o.value o.spelled.0 in
@@ -168,6 +175,7 @@ module _ {A X : Type 0} (Fits : A → Type 0) (cells_of : A → List Cell) (read
         refuses = λ more. err_then (reads (bytes_of o.front ++ o.byte ∷ more)) k (o.refuses more);
       }
 
+  -- the outcome of two parts, by that of the first
   then_at : (bytes : List ℕ) → IsBytes bytes → (read : Read A) → Outcome (Spells Fits cells_of) reads bytes read → Outcome S (λ bytes. reads bytes >>= k) bytes (read >>= k)
   then_at bytes each (Ok x) o =
       let parts : bytes ≡ bytes_of (cells_of x.0) ++ x.1 = o.parts ∙ ap (λ (cs : List Cell). bytes_of cs ++ x.1) o.spelled.1 in
@@ -188,9 +196,11 @@ module _ {A X : Type 0} (Fits : A → Type 0) (cells_of : A → List Cell) (read
   then_at bytes each (Err (Fault.Kind left)) o = wrong_first bytes left kind_byte o
   then_at bytes each (Err (Fault.Field left which)) o = wrong_first bytes left (named which) o
 
+  -- two sound readers, one after the other, are sound
   pub then_sound : Sound S (λ bytes. reads bytes >>= k)
   then_sound bytes each = then_at bytes each (reads bytes) (meets.sound bytes each)
 
+-- a reader that reads nothing more
 pub done_sound : {X : Type 0} (S : X → List Cell → Type 0) (x : X) → S x [] → Sound S (λ bytes. Ok (x, bytes))
 done_sound S x spelled bytes each = record { cells = []; spelled = spelled; parts = refl }
 
@@ -206,6 +216,7 @@ ends_sound Fits cells_of reads meets S f spelled =
 Splits : (cs ds front : List Cell) (here : Cell) (after : List Cell) → Type 0
 Splits cs ds front here after = ((m : List Cell) × (cs ≡ front ++ here ∷ m)) ⊎ ((f : List Cell) × (front ≡ cs ++ f) × (ds ≡ f ++ here ∷ after))
 
+-- a cell of two lists stands in one of them
 splits : (cs ds front : List Cell) (here : Cell) (after : List Cell) → cs ++ ds ≡ front ++ here ∷ after → Splits cs ds front here after
 unfolding Splits
 splits [] ds front here after e = inr (front, refl, e)
@@ -220,9 +231,11 @@ splits (c ∷ cs) ds (g ∷ front) here after e =
 
 module _ {A X : Type 0} (reads : List ℕ → Read A) (a : A) (cs : List Cell) (first : IsRead reads a cs)
     (k : A × List ℕ → Read X) (x : X) (ds : List Cell) (second : IsRead (λ bytes. k (a, bytes)) x ds) where
+  -- two parts that are spelled are read again
   again_both : (rest : List ℕ) → (reads (bytes_of (cs ++ ds) ++ rest) >>= k) ≡ Ok (x, rest)
   again_both rest = rw (bytes_of-both cs ds rest, first.again (bytes_of ds ++ rest)) (second.again rest)
 
+  -- at each place of two parts the label decides the fault
   labels_both : (front : List Cell) (here : Cell) (after : List Cell) (rest : List ℕ) → cs ++ ds ≡ front ++ here ∷ after
       → Refused (reads (bytes_of front ++ 256 ∷ rest) >>= k) here.label (suc (length rest))
   unfolding Splits
@@ -234,13 +247,16 @@ module _ {A X : Type 0} (reads : List ℕ → Read A) (a : A) (cs : List Cell) (
         subst (λ (read : Read X). Refused read here.label (suc (length rest))) (sym same) (second.labels p.0 here after rest p.2)
   ]
 
+  -- two parts that are read, one after the other, are read
   pub then_read : IsRead (λ bytes. reads bytes >>= k) x (cs ++ ds)
   then_read = record { again = again_both; labels = labels_both }
 
+-- an empty list has no place
 pub nil_no_place : (front : List Cell) (here : Cell) (after : List Cell) → ◌≡◌ {A = List Cell} [] (front ++ here ∷ after) → ⊥
 nil_no_place [] here after e = cc
 nil_no_place (c ∷ front) here after e = cc
 
+-- nothing is spelled, and nothing is read
 pub done_read : {X : Type 0} (x : X) → IsRead (λ bytes. Ok (x, bytes)) x []
 done_read x = record { again = λ rest. refl; labels = λ front here after rest e. absurd (nil_no_place front here after e) }
 

@@ -1,5 +1,5 @@
 -- Records byte by byte: each byte with what stands there. Every rule here is an own rule.
-use Rattle.std.specs.Prelude.{ℕ, List, [], ◌∷◌, map}
+use Rattle.std.specs.Prelude.{ℕ, List, map}
 use Rattle.std.specs.Int.{Width, to_be_bytes}
 use Rattle.cxl_message.specs.declared.identifiers.Bytes64.{Bytes64}
 use Rattle.cxl_codec.specs.declared.fields.FieldName.{FieldName}

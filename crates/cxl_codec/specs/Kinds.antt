@@ -1,5 +1,5 @@
 -- The kinds that a record can have at a kind byte, each with its number. Every number is an own rule.
-use Rattle.std.specs.Prelude.{ℕ, List, [], ◌∷◌, ◌++◌, map}
+use Rattle.std.specs.Prelude.{ℕ, List, [], ◌∷◌}
 use Rattle.cxl_message.specs.declared.channels.Channel.{Channel}
 use Rattle.cxl_message.specs.declared.opcodes.Meta.{Meta}
 use Rattle.cxl_message.specs.declared.opcodes.SnpType.{SnpType}
@@ -7,11 +7,12 @@ use Rattle.cxl_message.specs.declared.opcodes.ReqOp.{ReqOp}
 use Rattle.cxl_message.specs.declared.opcodes.RspOp.{RspOp}
 use Rattle.cxl_message.specs.declared.opcodes.NdrOp.{NdrOp}
 use Rattle.cxl_message.specs.declared.opcodes.SnpOp.{SnpOp}
-use Rattle.cxl_message.specs.declared.opcodes.Span.{Span}
 use Rattle.cxl_message.specs.Codes.{request_code, write_code, conflict_code, response_code, completion_code, data_code, snoop_code, credit_code}
 use Rattle.cxl_codec.specs.declared.kinds.CauseKind.{CauseKind}
 use Rattle.cxl_codec.specs.declared.kinds.OpKind.{OpKind}
 use Rattle.cxl_codec.specs.declared.kinds.ActKind.{ActKind}
+use Rattle.cxl_codec.specs.declared.kinds.LineActKind.{LineActKind}
+use Rattle.cxl_codec.specs.declared.kinds.TaggedActKind.{TaggedActKind}
 use Rattle.cxl_codec.specs.declared.kinds.MessageKind.{MessageKind}
 
 -- the number of a kind of cause
@@ -34,26 +35,35 @@ op_kind_code OpKind.Whole = 0x03
 abbrev pub op_kinds : List OpKind
 op_kinds = OpKind.Load ∷ OpKind.Word ∷ OpKind.Whole ∷ []
 
+-- the number of an act that names a line
+abbrev pub line_act_code : LineActKind → ℕ
+line_act_code LineActKind.Conflict = 0x01
+line_act_code LineActKind.WriteBack = 0x02
+line_act_code LineActKind.Answer = 0x03
+line_act_code LineActKind.AnswerBlock = 0x04
+line_act_code LineActKind.Finish = 0x16
+
+-- the number of an act that names a host and a tag
+abbrev pub tagged_act_code : TaggedActKind → ℕ
+tagged_act_code TaggedActKind.Serve = 0x11
+tagged_act_code TaggedActKind.Clean = 0x12
+tagged_act_code TaggedActKind.Start = 0x13
+tagged_act_code TaggedActKind.Evict = 0x14
+
 -- the number of a kind of act
 abbrev pub act_kind_code : ActKind → ℕ
-act_kind_code ActKind.Conflict = 0x01
-act_kind_code ActKind.WriteBack = 0x02
-act_kind_code ActKind.Answer = 0x03
-act_kind_code ActKind.AnswerBlock = 0x04
+act_kind_code (ActKind.Line kind) = line_act_code kind
+act_kind_code (ActKind.Tagged kind) = tagged_act_code kind
 act_kind_code ActKind.HostReturn = 0x05
-act_kind_code ActKind.Serve = 0x11
-act_kind_code ActKind.Clean = 0x12
-act_kind_code ActKind.Start = 0x13
-act_kind_code ActKind.Evict = 0x14
 act_kind_code ActKind.Snoop = 0x15
-act_kind_code ActKind.Finish = 0x16
 act_kind_code ActKind.DeviceReturn = 0x17
 
 -- every kind of act
 abbrev pub act_kinds : List ActKind
 act_kinds =
-    ActKind.Conflict ∷ ActKind.WriteBack ∷ ActKind.Answer ∷ ActKind.AnswerBlock ∷ ActKind.HostReturn ∷ ActKind.Serve ∷ ActKind.Clean
-    ∷ ActKind.Start ∷ ActKind.Evict ∷ ActKind.Snoop ∷ ActKind.Finish ∷ ActKind.DeviceReturn ∷ []
+    ActKind.Line LineActKind.Conflict ∷ ActKind.Line LineActKind.WriteBack ∷ ActKind.Line LineActKind.Answer ∷ ActKind.Line LineActKind.AnswerBlock ∷ ActKind.HostReturn
+    ∷ ActKind.Tagged TaggedActKind.Serve ∷ ActKind.Tagged TaggedActKind.Clean ∷ ActKind.Tagged TaggedActKind.Start ∷ ActKind.Tagged TaggedActKind.Evict
+    ∷ ActKind.Snoop ∷ ActKind.Line LineActKind.Finish ∷ ActKind.DeviceReturn ∷ []
 
 -- the number of a kind of message
 abbrev pub message_kind_code : MessageKind → ℕ

@@ -1,5 +1,5 @@
 -- The opening records of a trace. Every rule here is an own rule.
-use Rattle.std.specs.Prelude.{ℕ, List, ◌∷◌, ◌++◌, ◌<◌, ◌^◌, ◌≡◌, All, length}
+use Rattle.std.specs.Prelude.{List, ◌∷◌, ◌++◌, ◌<◌, ◌^◌, ◌≡◌, All, length}
 use Rattle.std.specs.Int.{w16}
 use Rattle.cxl_message.specs.declared.identifiers.Line.{Line}
 use Rattle.cxl_message.specs.declared.identifiers.Bytes64.{Bytes64}

@@ -1,38 +1,25 @@
 -- Reading from left to right, with the first fault that is met. No public clause cites this file: the grammar decides.
-use Rattle.std.specs.Prelude.{◌≡◌, ℕ, zero, suc, ◌==◌, ◌-◌, ◌&&◌, List, [], ◌∷◌, length, take, drop, Option, Some, None, Result, Ok, Err, Bool, true, false, nat_lt, nat_le, find, if◌then◌else◌}
+use Rattle.std.specs.Prelude.{◌≡◌, ℕ, zero, suc, ◌==◌, ◌&&◌, List, [], ◌∷◌, length, take, drop, Option, Some, None, Result, Ok, Err, Bool, true, false, nat_lt, nat_le, find, if◌then◌else◌}
 use Rattle.std.specs.Option.{option_map_or}
-use Rattle.std.specs.Int.{Width, w16, w32, w64, byte_len, from_be_bytes}
+use Rattle.std.specs.Int.{Width, byte_len, from_be_bytes}
 use Rattle.cxl_message.specs.declared.channels.Channel.{Channel}
-use Rattle.cxl_message.specs.declared.identifiers.Line.{Line}
 use Rattle.cxl_message.specs.declared.identifiers.Bytes64.{Bytes64}
 use Rattle.cxl_message.specs.declared.opcodes.Meta.{Meta}
 use Rattle.cxl_message.specs.declared.opcodes.SnpType.{SnpType}
 use Rattle.cxl_message.specs.declared.opcodes.SnpOp.{SnpOp}
 use Rattle.cxl_message.specs.declared.opcodes.Span.{Span}
-use Rattle.cxl_message.specs.declared.messages.Message.{Message}
-use Rattle.cxl_message.specs.declared.events.Op.{Op}
-use Rattle.cxl_message.specs.declared.events.Act.{Act}
-use Rattle.cxl_message.specs.declared.events.Cause.{Cause}
-use Rattle.cxl_message.specs.declared.events.Out.{Out}
-use Rattle.cxl_message.specs.declared.events.Sends.{Sends}
-use Rattle.cxl_message.specs.declared.events.Commit.{Commit}
-use Rattle.cxl_message.specs.declared.events.Event.{Event}
 use Rattle.cxl_message.specs.Codes.{meta_code, snoop_type_code, channel_code, span_len}
 use Rattle.cxl_message.specs.Formed.{is_block_snoop}
-use Rattle.cxl_message.specs.Setup.{Configuration}
 use Rattle.cxl_codec.specs.declared.fields.FieldName.{FieldName}
 use Rattle.cxl_codec.specs.declared.faults.Fault.{Fault}
-use Rattle.cxl_codec.specs.declared.kinds.CauseKind.{CauseKind}
-use Rattle.cxl_codec.specs.declared.kinds.OpKind.{OpKind}
-use Rattle.cxl_codec.specs.declared.kinds.ActKind.{ActKind}
-use Rattle.cxl_codec.specs.declared.kinds.MessageKind.{MessageKind}
-use Rattle.cxl_codec.specs.Kinds.{cause_kind_code, cause_kinds, op_kind_code, op_kinds, act_kind_code, act_kinds, message_kind_code, message_kinds, metas, snoop_types, credit_channels}
+use Rattle.cxl_codec.specs.Kinds.{metas, snoop_types, credit_channels}
 
 -- a value and the bytes after it, or the first fault
 abbrev pub Read : Type 0 → Type 0
 Read A = Result (A × List ℕ) Fault
 
 infixl 10 ◌>>=◌
+-- one read after another, as long as none fails
 abbrev pub ◌>>=◌ : {A B : Type 0} → Read A → (A × List ℕ → Read B) → Read B
 (Ok x) >>= f = f x
 (Err e) >>= f = Err e
@@ -93,14 +80,18 @@ abbrev pub spans_of : Bool → List Span
 spans_of false = Span.One ∷ []
 spans_of true = Span.Two ∷ Span.Four ∷ []
 
+-- a Meta0-State value
 abbrev pub meta_at : List ℕ → Read Meta
 meta_at bytes = field_of FieldName.Meta (λ b. find (λ m. meta_code m == b) metas) bytes
 
+-- a snoop type
 abbrev pub snoop_type_at : List ℕ → Read SnpType
 snoop_type_at bytes = field_of FieldName.SnpType (λ b. find (λ s. snoop_type_code s == b) snoop_types) bytes
 
+-- a channel with credits
 abbrev pub channel_at : List ℕ → Read Channel
 channel_at bytes = field_of FieldName.Channel (λ b. find (λ c. channel_code c == b) credit_channels) bytes
 
+-- the span of a snoop
 abbrev pub span_at : SnpOp → List ℕ → Read Span
 span_at op bytes = field_of FieldName.Span (λ b. find (λ s. span_len s == b) (spans_of (is_block_snoop op))) bytes

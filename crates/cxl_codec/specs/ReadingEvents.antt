@@ -1,14 +1,7 @@
 -- Reading what is inside an event record. No public clause cites this file.
-use Rattle.std.specs.Prelude.{◌≡◌, ℕ, zero, suc, ◌==◌, ◌-◌, ◌&&◌, List, [], ◌∷◌, length, take, drop, Option, Some, None, Result, Ok, Err, Bool, true, false, nat_lt, nat_le, find, if◌then◌else◌}
-use Rattle.std.specs.Option.{option_map_or}
-use Rattle.std.specs.Int.{Width, w16, w32, w64, byte_len, from_be_bytes}
-use Rattle.cxl_message.specs.declared.channels.Channel.{Channel}
+use Rattle.std.specs.Prelude.{ℕ, zero, suc, ◌==◌, List, Option, Some, None, Ok, find}
+use Rattle.std.specs.Int.{w16, w32, w64}
 use Rattle.cxl_message.specs.declared.identifiers.Line.{Line}
-use Rattle.cxl_message.specs.declared.identifiers.Bytes64.{Bytes64}
-use Rattle.cxl_message.specs.declared.opcodes.Meta.{Meta}
-use Rattle.cxl_message.specs.declared.opcodes.SnpType.{SnpType}
-use Rattle.cxl_message.specs.declared.opcodes.SnpOp.{SnpOp}
-use Rattle.cxl_message.specs.declared.opcodes.Span.{Span}
 use Rattle.cxl_message.specs.declared.messages.Message.{Message}
 use Rattle.cxl_message.specs.declared.events.Op.{Op}
 use Rattle.cxl_message.specs.declared.events.Act.{Act}
@@ -17,17 +10,16 @@ use Rattle.cxl_message.specs.declared.events.Out.{Out}
 use Rattle.cxl_message.specs.declared.events.Sends.{Sends}
 use Rattle.cxl_message.specs.declared.events.Commit.{Commit}
 use Rattle.cxl_message.specs.declared.events.Event.{Event}
-use Rattle.cxl_message.specs.Codes.{meta_code, snoop_type_code, channel_code, span_len}
-use Rattle.cxl_message.specs.Formed.{is_block_snoop}
-use Rattle.cxl_message.specs.Setup.{Configuration}
 use Rattle.cxl_codec.specs.declared.fields.FieldName.{FieldName}
-use Rattle.cxl_codec.specs.declared.faults.Fault.{Fault}
 use Rattle.cxl_codec.specs.declared.kinds.CauseKind.{CauseKind}
 use Rattle.cxl_codec.specs.declared.kinds.OpKind.{OpKind}
 use Rattle.cxl_codec.specs.declared.kinds.ActKind.{ActKind}
+use Rattle.cxl_codec.specs.declared.kinds.LineActKind.{LineActKind}
+use Rattle.cxl_codec.specs.declared.kinds.TaggedActKind.{TaggedActKind}
+use Rattle.cxl_message.specs.declared.identifiers.Tag.{Tag}
 use Rattle.cxl_codec.specs.declared.kinds.MessageKind.{MessageKind}
-use Rattle.cxl_codec.specs.Kinds.{cause_kind_code, cause_kinds, op_kind_code, op_kinds, act_kind_code, act_kinds, message_kind_code, message_kinds, metas, snoop_types, credit_channels}
-use Rattle.cxl_codec.specs.Reading.{Read, ◌>>=◌, one, kind_of, field_of, within, number_at, payload_at, run_at, meta_at, snoop_type_at, channel_at, span_at}
+use Rattle.cxl_codec.specs.Kinds.{cause_kind_code, cause_kinds, op_kind_code, op_kinds, act_kind_code, act_kinds, message_kind_code, message_kinds}
+use Rattle.cxl_codec.specs.Reading.{Read, ◌>>=◌, kind_of, field_of, within, number_at, payload_at, run_at, meta_at, snoop_type_at, channel_at, span_at}
 
 -- the fields of a message of this kind
 unfoldable pub message_fields_at : MessageKind → List ℕ → Read Message
@@ -68,6 +60,7 @@ message_fields_at MessageKind.Credit bytes = do
   channel ← channel_at bytes
   Ok (Message.Credit channel.0, channel.1)
 
+-- a message
 unfoldable pub message_at : List ℕ → Read Message
 message_at bytes = do
   kind ← kind_of (λ b. find (λ k. message_kind_code k == b) message_kinds) bytes
@@ -88,56 +81,49 @@ op_fields_at OpKind.Whole bytes = do
   value ← payload_at line.1
   Ok (Op.Whole (record { 0 = line.0 }) value.0, value.1)
 
+-- an operation
 unfoldable pub op_at : List ℕ → Read Op
 op_at bytes = do
   kind ← kind_of (λ b. find (λ k. op_kind_code k == b) op_kinds) bytes
   op_fields_at kind.0 kind.1
 
+-- the act of this kind that names a line
+abbrev pub line_act : LineActKind → Line → Act
+line_act LineActKind.Conflict line = Act.Conflict line
+line_act LineActKind.WriteBack line = Act.WriteBack line
+line_act LineActKind.Answer line = Act.Answer line
+line_act LineActKind.AnswerBlock line = Act.AnswerBlock line
+line_act LineActKind.Finish line = Act.Finish line
+
+-- the act of this kind that names a host and a tag
+abbrev pub tagged_act : TaggedActKind → ℕ → Tag → Act
+tagged_act TaggedActKind.Serve host tag = Act.Serve host tag
+tagged_act TaggedActKind.Clean host tag = Act.Clean host tag
+tagged_act TaggedActKind.Start host tag = Act.Start host tag
+tagged_act TaggedActKind.Evict host tag = Act.Evict host tag
+
 -- the fields of an act of this kind
 unfoldable pub act_fields_at : ActKind → List ℕ → Read Act
-act_fields_at ActKind.Conflict bytes = do
+act_fields_at (ActKind.Line kind) bytes = do
   line ← number_at w32 bytes
-  Ok (Act.Conflict (record { 0 = line.0 }), line.1)
-act_fields_at ActKind.WriteBack bytes = do
-  line ← number_at w32 bytes
-  Ok (Act.WriteBack (record { 0 = line.0 }), line.1)
-act_fields_at ActKind.Answer bytes = do
-  line ← number_at w32 bytes
-  Ok (Act.Answer (record { 0 = line.0 }), line.1)
-act_fields_at ActKind.AnswerBlock bytes = do
-  line ← number_at w32 bytes
-  Ok (Act.AnswerBlock (record { 0 = line.0 }), line.1)
+  Ok (line_act kind (record { 0 = line.0 }), line.1)
+act_fields_at (ActKind.Tagged kind) bytes = do
+  host ← field_of FieldName.Host (within 0 15) bytes
+  tag ← number_at w16 host.1
+  Ok (tagged_act kind host.0 (record { 0 = tag.0 }), tag.1)
 act_fields_at ActKind.HostReturn bytes = do
   channel ← channel_at bytes
   Ok (Act.HostReturn channel.0, channel.1)
-act_fields_at ActKind.Serve bytes = do
-  host ← field_of FieldName.Host (within 0 15) bytes
-  tag ← number_at w16 host.1
-  Ok (Act.Serve host.0 (record { 0 = tag.0 }), tag.1)
-act_fields_at ActKind.Clean bytes = do
-  host ← field_of FieldName.Host (within 0 15) bytes
-  tag ← number_at w16 host.1
-  Ok (Act.Clean host.0 (record { 0 = tag.0 }), tag.1)
-act_fields_at ActKind.Start bytes = do
-  host ← field_of FieldName.Host (within 0 15) bytes
-  tag ← number_at w16 host.1
-  Ok (Act.Start host.0 (record { 0 = tag.0 }), tag.1)
-act_fields_at ActKind.Evict bytes = do
-  host ← field_of FieldName.Host (within 0 15) bytes
-  tag ← number_at w16 host.1
-  Ok (Act.Evict host.0 (record { 0 = tag.0 }), tag.1)
 act_fields_at ActKind.Snoop bytes = do
   host ← field_of FieldName.Host (within 0 15) bytes
   line ← number_at w32 host.1
   Ok (Act.Snoop host.0 (record { 0 = line.0 }), line.1)
-act_fields_at ActKind.Finish bytes = do
-  line ← number_at w32 bytes
-  Ok (Act.Finish (record { 0 = line.0 }), line.1)
 act_fields_at ActKind.DeviceReturn bytes = do
   host ← field_of FieldName.Host (within 0 15) bytes
   channel ← channel_at host.1
   Ok (Act.DeviceReturn host.0 channel.0, channel.1)
 
+-- an act
 unfoldable pub act_at : List ℕ → Read Act
 act_at bytes = do
   kind ← kind_of (λ b. find (λ k. act_kind_code k == b) act_kinds) bytes
@@ -158,11 +144,13 @@ cause_fields_at CauseKind.Act bytes = do
   act ← act_at bytes
   Ok (Cause.Act act.0, act.1)
 
+-- a cause
 unfoldable pub cause_at : List ℕ → Read Cause
 cause_at bytes = do
   kind ← kind_of (λ b. find (λ k. cause_kind_code k == b) cause_kinds) bytes
   cause_fields_at kind.0 kind.1
 
+-- a sent message
 unfoldable pub out_at : List ℕ → Read Out
 out_at bytes = do
   host ← field_of FieldName.Host (within 0 15) bytes
@@ -180,6 +168,7 @@ outs_at (suc (suc n)) bytes = do
   second ← out_at first.1
   Ok (Sends.Two first.0 second.0, second.1)
 
+-- the messages that are sent
 unfoldable pub sends_at : List ℕ → Read Sends
 sends_at bytes = do
   count ← field_of FieldName.SendCount (within 0 2) bytes
@@ -195,11 +184,13 @@ flagged_at (suc n) bytes = do
   value ← payload_at op.1
   Ok (Some (record { stream = stream.0; index = index.0; op = op.0; value = value.0 }), value.1)
 
+-- a commit, if there is one
 unfoldable pub commit_at : List ℕ → Read (Option Commit)
 commit_at bytes = do
   flag ← field_of FieldName.CommitFlag (within 0 1) bytes
   flagged_at flag.0 flag.1
 
+-- an event
 unfoldable pub event_at : List ℕ → Read Event
 event_at bytes = do
   agent ← field_of FieldName.Agent (within 0 16) bytes

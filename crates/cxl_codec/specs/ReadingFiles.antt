@@ -1,32 +1,10 @@
 -- Reading headers, openings and end records. No public clause cites this file.
-use Rattle.std.specs.Prelude.{◌≡◌, ℕ, zero, suc, ◌==◌, ◌-◌, ◌&&◌, List, [], ◌∷◌, length, take, drop, Option, Some, None, Result, Ok, Err, Bool, true, false, nat_lt, nat_le, find, if◌then◌else◌}
-use Rattle.std.specs.Option.{option_map_or}
-use Rattle.std.specs.Int.{Width, w16, w32, w64, byte_len, from_be_bytes}
-use Rattle.cxl_message.specs.declared.channels.Channel.{Channel}
+use Rattle.std.specs.Prelude.{ℕ, ◌-◌, List, Ok}
+use Rattle.std.specs.Int.{w16, w64}
 use Rattle.cxl_message.specs.declared.identifiers.Line.{Line}
 use Rattle.cxl_message.specs.declared.identifiers.Bytes64.{Bytes64}
-use Rattle.cxl_message.specs.declared.opcodes.Meta.{Meta}
-use Rattle.cxl_message.specs.declared.opcodes.SnpType.{SnpType}
-use Rattle.cxl_message.specs.declared.opcodes.SnpOp.{SnpOp}
-use Rattle.cxl_message.specs.declared.opcodes.Span.{Span}
-use Rattle.cxl_message.specs.declared.messages.Message.{Message}
-use Rattle.cxl_message.specs.declared.events.Op.{Op}
-use Rattle.cxl_message.specs.declared.events.Act.{Act}
-use Rattle.cxl_message.specs.declared.events.Cause.{Cause}
-use Rattle.cxl_message.specs.declared.events.Out.{Out}
-use Rattle.cxl_message.specs.declared.events.Sends.{Sends}
-use Rattle.cxl_message.specs.declared.events.Commit.{Commit}
-use Rattle.cxl_message.specs.declared.events.Event.{Event}
-use Rattle.cxl_message.specs.Codes.{meta_code, snoop_type_code, channel_code, span_len}
-use Rattle.cxl_message.specs.Formed.{is_block_snoop}
 use Rattle.cxl_message.specs.Setup.{Configuration}
 use Rattle.cxl_codec.specs.declared.fields.FieldName.{FieldName}
-use Rattle.cxl_codec.specs.declared.faults.Fault.{Fault}
-use Rattle.cxl_codec.specs.declared.kinds.CauseKind.{CauseKind}
-use Rattle.cxl_codec.specs.declared.kinds.OpKind.{OpKind}
-use Rattle.cxl_codec.specs.declared.kinds.ActKind.{ActKind}
-use Rattle.cxl_codec.specs.declared.kinds.MessageKind.{MessageKind}
-use Rattle.cxl_codec.specs.Kinds.{cause_kind_code, cause_kinds, op_kind_code, op_kinds, act_kind_code, act_kinds, message_kind_code, message_kinds, metas, snoop_types, credit_channels}
 use Rattle.std.specs.Prelude.{◌+◌, ◌*◌}
 use Rattle.cxl_codec.specs.Reading.{Read, ◌>>=◌, field_of, within, number_at, free_at, payload_at, run_at}
 
@@ -46,6 +24,7 @@ streams_at hosts bytes = do
   streams ← run_at FieldName.StreamHost (hosts - 1) count.0 count.1
   Ok (streams.0, streams.1)
 
+-- a header
 unfoldable pub header_at : List ℕ → Read Configuration
 header_at bytes = do
   magic ← magic_at bytes
@@ -60,6 +39,7 @@ header_at bytes = do
   streams ← streams_at hosts.0 credits.1
   Ok (record { hosts = hosts.0; lines = lines.0 + 1; entries = 256 * high.0 + low.0 + 1; ways = ways.0 + 1; tags = tags.0; credits = credits.0; streams = streams.0 }, streams.1)
 
+-- an opening record
 unfoldable pub opening_at : List ℕ → Read (Line × Bytes64)
 opening_at bytes = do
   agent ← field_of FieldName.Agent (within 0xf0 0xf0) bytes
@@ -67,6 +47,7 @@ opening_at bytes = do
   value ← payload_at line.1
   Ok ((record { 0 = line.0 }, value.0), value.1)
 
+-- an end record
 unfoldable pub end_at : List ℕ → Read ℕ
 end_at bytes = do
   agent ← field_of FieldName.Agent (within 0xff 0xff) bytes

@@ -1,7 +1,7 @@
 // The acts inside event records.
-ghost use Rattle.std.specs.Prelude.{◌≡◌, ◌+◌, ◌≤◌, ◌++◌, vec_len, vec_capacity};
+ghost use Rattle.std.specs.Prelude.{◌≡◌, ◌<◌, ◌^◌, ◌+◌, ◌≤◌, ◌++◌, vec_len, vec_capacity};
 ghost use Rattle.cxl_codec.specs.Cells.{bytes_of, kind, field, number};
-ghost use Rattle.cxl_codec.specs.Events.{act_cells};
+ghost use Rattle.cxl_codec.specs.Events.{act_cells, ActInRange};
 ghost use Rattle.cxl_codec.specs.Reading.{Gives};
 ghost use Rattle.cxl_codec.specs.ReadingEvents.{act_fields_at, act_at};
 ghost use Rattle.std.specs.Prelude.{◌∷◌};
@@ -11,7 +11,7 @@ ghost use Rattle.cxl_codec.specs.declared.fields.FieldName.{FieldName};
 use crate::codes::channel_code;
 use crate::faults::Fault;
 use crate::fields::FieldName;
-use crate::kinds::{ActKind, read_act_kind};
+use crate::kinds::{ActKind, LineActKind, TaggedActKind, read_act_kind};
 use crate::reading::{read_channel, read_line, read_tag, read_within};
 use crate::writing::put;
 use cxl_message::{Act, Line, Tag};
@@ -23,6 +23,7 @@ pub const LONGEST_ACT: usize = 6;
 pub fn put_act(out: &mut Vec<u8>, act: &Act)
     requires { vec_len out.old + LONGEST_ACT ≤ vec_capacity out.old }
     ensures items { out.new.items ≡ out.old.items ++ bytes_of (act_cells act.now) }
+    ensures range { ActInRange act.now }
     ensures len { vec_len out.new ≤ vec_len out.old + LONGEST_ACT }
     ensures capacity { vec_capacity out.old ≤ vec_capacity out.new }
 {
@@ -50,6 +51,7 @@ pub fn put_act(out: &mut Vec<u8>, act: &Act)
 fn put_line_act(out: &mut Vec<u8>, code: u8, line: Line)
     requires { vec_len out.old + 5 ≤ vec_capacity out.old }
     ensures items { out.new.items ≡ out.old.items ++ bytes_of (kind code ∷ number w32 line.0) }
+    ensures range { line.0 < 2 ^ 32 }
     ensures len { vec_len out.new ≡ vec_len out.old + 5 }
     ensures capacity { vec_capacity out.old ≤ vec_capacity out.new }
 {
@@ -62,6 +64,7 @@ fn put_line_act(out: &mut Vec<u8>, code: u8, line: Line)
 fn put_tag_act(out: &mut Vec<u8>, code: u8, host: u8, tag: Tag)
     requires { vec_len out.old + 4 ≤ vec_capacity out.old }
     ensures items { out.new.items ≡ out.old.items ++ bytes_of (kind code ∷ field FieldName.Host host ∷ number w16 tag.0) }
+    ensures range { tag.0 < 2 ^ 16 }
     ensures len { vec_len out.new ≡ vec_len out.old + 4 }
     ensures capacity { vec_capacity out.old ≤ vec_capacity out.new }
 {
@@ -84,59 +87,51 @@ fn read_act_fields(kind: ActKind, bytes: &[u8]) -> Result<(Act, &[u8]), Fault>
     ensures { Gives (λ x. (x.0, x.1.now)) result (act_fields_at kind bytes.now) }
 {
     match kind {
-        ActKind::Conflict => {
-            let (line, rest) = read_line(bytes)?;
-            Ok((Act::Conflict(line), rest))
-        }
-        ActKind::WriteBack => {
-            let (line, rest) = read_line(bytes)?;
-            Ok((Act::WriteBack(line), rest))
-        }
-        ActKind::Answer => {
-            let (line, rest) = read_line(bytes)?;
-            Ok((Act::Answer(line), rest))
-        }
-        ActKind::AnswerBlock => {
-            let (line, rest) = read_line(bytes)?;
-            Ok((Act::AnswerBlock(line), rest))
-        }
+        ActKind::Line(kind) => read_line_act(kind, bytes),
+        ActKind::Tagged(kind) => read_tagged_act(kind, bytes),
         ActKind::HostReturn => {
             let (channel, rest) = read_channel(bytes)?;
             Ok((Act::HostReturn(channel), rest))
-        }
-        ActKind::Serve => {
-            let (host, rest) = read_within(bytes, FieldName::Host, 0, 15)?;
-            let (tag, rest) = read_tag(rest)?;
-            Ok((Act::Serve { host, tag }, rest))
-        }
-        ActKind::Clean => {
-            let (host, rest) = read_within(bytes, FieldName::Host, 0, 15)?;
-            let (tag, rest) = read_tag(rest)?;
-            Ok((Act::Clean { host, tag }, rest))
-        }
-        ActKind::Start => {
-            let (host, rest) = read_within(bytes, FieldName::Host, 0, 15)?;
-            let (tag, rest) = read_tag(rest)?;
-            Ok((Act::Start { host, tag }, rest))
-        }
-        ActKind::Evict => {
-            let (host, rest) = read_within(bytes, FieldName::Host, 0, 15)?;
-            let (tag, rest) = read_tag(rest)?;
-            Ok((Act::Evict { host, tag }, rest))
         }
         ActKind::Snoop => {
             let (host, rest) = read_within(bytes, FieldName::Host, 0, 15)?;
             let (line, rest) = read_line(rest)?;
             Ok((Act::Snoop { host, line }, rest))
         }
-        ActKind::Finish => {
-            let (line, rest) = read_line(bytes)?;
-            Ok((Act::Finish(line), rest))
-        }
         ActKind::DeviceReturn => {
             let (host, rest) = read_within(bytes, FieldName::Host, 0, 15)?;
             let (channel, rest) = read_channel(rest)?;
             Ok((Act::DeviceReturn { host, channel }, rest))
         }
+    }
+}
+
+/// Reads the line of an act of this kind.
+#[tactic(auto, unfolding(crate::specs::ReadingEvents::act_fields_at))]
+fn read_line_act(kind: LineActKind, bytes: &[u8]) -> Result<(Act, &[u8]), Fault>
+    ensures { Gives (λ x. (x.0, x.1.now)) result (act_fields_at (ActKind.Line kind) bytes.now) }
+{
+    let (line, rest) = read_line(bytes)?;
+    match kind {
+        LineActKind::Conflict => Ok((Act::Conflict(line), rest)),
+        LineActKind::WriteBack => Ok((Act::WriteBack(line), rest)),
+        LineActKind::Answer => Ok((Act::Answer(line), rest)),
+        LineActKind::AnswerBlock => Ok((Act::AnswerBlock(line), rest)),
+        LineActKind::Finish => Ok((Act::Finish(line), rest)),
+    }
+}
+
+/// Reads the host and the tag of an act of this kind.
+#[tactic(auto, unfolding(crate::specs::ReadingEvents::act_fields_at))]
+fn read_tagged_act(kind: TaggedActKind, bytes: &[u8]) -> Result<(Act, &[u8]), Fault>
+    ensures { Gives (λ x. (x.0, x.1.now)) result (act_fields_at (ActKind.Tagged kind) bytes.now) }
+{
+    let (host, rest) = read_within(bytes, FieldName::Host, 0, 15)?;
+    let (tag, rest) = read_tag(rest)?;
+    match kind {
+        TaggedActKind::Serve => Ok((Act::Serve { host, tag }, rest)),
+        TaggedActKind::Clean => Ok((Act::Clean { host, tag }, rest)),
+        TaggedActKind::Start => Ok((Act::Start { host, tag }, rest)),
+        TaggedActKind::Evict => Ok((Act::Evict { host, tag }, rest)),
     }
 }

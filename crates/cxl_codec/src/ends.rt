@@ -17,6 +17,7 @@ use std::alloc::AllocError;
 /// as before.
 pub fn encode_end(count: u64, out: &mut Vec<u8>) -> Result<(), AllocError>
     ensures ok { OnOk result (out.new.items ≡ out.old.items ++ end_bytes count) }
+    ensures fits { EndFits count }
     ensures err { OnErr result (out.new.items ≡ out.old.items) }
 {
     out.reserve(9)?;

@@ -1,23 +1,27 @@
 // The event records of a trace.
-ghost use Rattle.std.specs.Prelude.{◌≡◌, ◌+◌, ◌≤◌, ◌++◌, IsTrue, OnOk, OnErr, IfOk, IfErr, vec_len, vec_capacity};
+ghost use Rattle.std.specs.Prelude.{◌≡◌, ◌+◌, ◌≤◌, ◌++◌, IsTrue, OnOk, OnErr, IfOk, IfErr, IfSome, vec_len, vec_capacity};
 ghost use Rattle.cxl_message.specs.Formed.{well_formed as is_well_formed};
 ghost use Rattle.cxl_codec.specs.Cells.{bytes_of};
-ghost use Rattle.cxl_codec.specs.Events.{cause_cells, out_cells, sends_cells, commit_cells, event_cells, EventFits};
+ghost use Rattle.cxl_codec.specs.Events.{cause_cells, out_cells, sends_cells, commit_cells, event_cells, CauseInRange, CommitInRange, EventFits};
+ghost use Rattle.cxl_codec.specs.Messages.{MessageInRange};
+ghost use Rattle.cxl_message.specs.Events.{outs};
+ghost use Rattle.std.specs.List.{AllByRecursion};
 ghost use Rattle.cxl_codec.specs.Grammar.{BeginsWith, Refuses};
 ghost use Rattle.cxl_codec.specs.Traces.{event_bytes};
 ghost use Rattle.cxl_codec.specs.Reading.{Gives};
+ghost use Rattle.cxl_codec.specs.declared.kinds.CauseKind.{CauseKind};
 ghost use Rattle.cxl_codec.specs.ReadingEvents.{cause_fields_at, cause_at, out_at, outs_at, sends_at, flagged_at, commit_at, event_at};
 
 use crate::acts::{put_act, read_act};
 use crate::faults::{Fault, refusal};
 use crate::fields::FieldName;
 use crate::kinds::{CauseKind, read_cause_kind};
-use crate::messages::{put_message, read_message};
-use crate::operations::{put_op, read_op};
+use crate::messages::{BLANK_MESSAGE, put_message, read_message};
+use crate::operations::{BLANK_OP, put_op, read_op};
 use crate::reading::{read_payload, read_u32, read_within};
 use crate::refusals::DecodeRefusal;
 use crate::writing::{put, put_payload};
-use cxl_message::{Cause, Commit, Event, Out, Sends};
+use cxl_message::{Act, Bytes64, Cause, Commit, Event, Line, Out, Sends};
 use std::alloc::AllocError;
 
 /// How many bytes a cause has at most.
@@ -31,11 +35,26 @@ const LONGEST_COMMIT: usize = 139;
 /// How many bytes an event has at most.
 const LONGEST_EVENT: usize = 364;
 
+/// An event to be written over.
+const BLANK: Event = Event {
+    agent: 0,
+    cause: Cause::Act(Act::Finish(Line(0))),
+    sends: Sends::Nothing,
+    commit: None,
+};
+
+/// A sent message to be written over.
+const BLANK_OUT: Out = Out {
+    host: 0,
+    message: BLANK_MESSAGE,
+};
+
 /// Appends the record of an event, which is well formed: its agent, cause, sends and commit (own rule). The error is
 /// want of memory, and `out` is then as before.
 pub fn encode_event(event: &Event, out: &mut Vec<u8>) -> Result<(), AllocError>
     requires { IsTrue (is_well_formed event.now) }
     ensures ok { OnOk result (out.new.items ≡ out.old.items ++ event_bytes event.now) }
+    ensures fits { OnOk result (EventFits event.now) }
     ensures err { OnErr result (out.new.items ≡ out.old.items) }
 {
     out.reserve(LONGEST_EVENT)?;
@@ -50,6 +69,7 @@ pub fn encode_event(event: &Event, out: &mut Vec<u8>) -> Result<(), AllocError>
 fn put_cause(out: &mut Vec<u8>, cause: &Cause)
     requires { vec_len out.old + LONGEST_CAUSE ≤ vec_capacity out.old }
     ensures items { out.new.items ≡ out.old.items ++ bytes_of (cause_cells cause.now) }
+    ensures range { CauseInRange cause.now }
     ensures len { vec_len out.new ≤ vec_len out.old + LONGEST_CAUSE }
     ensures capacity { vec_capacity out.old ≤ vec_capacity out.new }
 {
@@ -74,6 +94,7 @@ fn put_cause(out: &mut Vec<u8>, cause: &Cause)
 fn put_out(out: &mut Vec<u8>, sent: &Out)
     requires { vec_len out.old + LONGEST_OUT ≤ vec_capacity out.old }
     ensures items { out.new.items ≡ out.old.items ++ bytes_of (out_cells sent.now) }
+    ensures range { MessageInRange sent.now.message }
     ensures len { vec_len out.new ≤ vec_len out.old + LONGEST_OUT }
     ensures capacity { vec_capacity out.old ≤ vec_capacity out.new }
 {
@@ -85,6 +106,7 @@ fn put_out(out: &mut Vec<u8>, sent: &Out)
 fn put_sends(out: &mut Vec<u8>, sends: &Sends)
     requires { vec_len out.old + LONGEST_SENDS ≤ vec_capacity out.old }
     ensures items { out.new.items ≡ out.old.items ++ bytes_of (sends_cells sends.now) }
+    ensures range { AllByRecursion (λ o. MessageInRange o.message) (outs sends.now) }
     ensures len { vec_len out.new ≤ vec_len out.old + LONGEST_SENDS }
     ensures capacity { vec_capacity out.old ≤ vec_capacity out.new }
 {
@@ -106,6 +128,7 @@ fn put_sends(out: &mut Vec<u8>, sends: &Sends)
 fn put_commit(out: &mut Vec<u8>, commit: &Option<Commit>)
     requires { vec_len out.old + LONGEST_COMMIT ≤ vec_capacity out.old }
     ensures items { out.new.items ≡ out.old.items ++ bytes_of (commit_cells commit.now) }
+    ensures range { IfSome commit.now CommitInRange }
     ensures len { vec_len out.new ≤ vec_len out.old + LONGEST_COMMIT }
     ensures capacity { vec_capacity out.old ≤ vec_capacity out.new }
 {
@@ -128,129 +151,167 @@ pub fn decode_event(bytes: &[u8]) -> Result<(Event, usize), DecodeRefusal>
     ensures found { IfOk result (λ found. BeginsWith EventFits event_cells bytes.now found.0 found.1) }
     ensures refused { IfErr result (λ refusal. Refuses EventFits event_cells bytes.now refusal) }
 {
-    match read_event(bytes) {
-        Ok((event, rest)) => Ok((event, bytes.len() - rest.len())),
+    let mut event = BLANK;
+    let length = decode_event_into(bytes, &mut event)?;
+    Ok((event, length))
+}
+
+/// Reads the event record at the front of the bytes into `event`, and answers how many bytes the record has. It is
+/// refused as by `decode_event`, and what `event` is then isn't said.
+pub fn decode_event_into(bytes: &[u8], event: &mut Event) -> Result<usize, DecodeRefusal>
+    ensures found { IfOk result (λ length. BeginsWith EventFits event_cells bytes.now event.new length) }
+    ensures refused { IfErr result (λ refusal. Refuses EventFits event_cells bytes.now refusal) }
+{
+    match read_event(bytes, event) {
+        Ok(rest) => Ok(bytes.len() - rest.len()),
         Err(fault) => Err(refusal(bytes.len(), fault)),
     }
 }
 
-/// Reads an event.
+/// Reads an event into `event`.
 #[tactic(auto, unfolding(crate::specs::ReadingEvents::event_at))]
-fn read_event(bytes: &[u8]) -> Result<(Event, &[u8]), Fault>
-    ensures { Gives (λ x. (x.0, x.1.now)) result (event_at bytes.now) }
+fn read_event<'a>(bytes: &'a [u8], event: &mut Event) -> Result<&'a [u8], Fault>
+    ensures { Gives (λ rest. (event.new, rest.now)) result (event_at bytes.now) }
 {
     let (agent, rest) = read_within(bytes, FieldName::Agent, 0, 16)?;
-    let (cause, rest) = read_cause(rest)?;
-    let (sends, rest) = read_sends(rest)?;
-    let (commit, rest) = read_commit(rest)?;
-    let event = Event {
-        agent,
-        cause,
-        sends,
-        commit,
-    };
-    Ok((event, rest))
+    event.agent = agent;
+    let rest = read_cause(rest, &mut event.cause)?;
+    let rest = read_sends(rest, &mut event.sends)?;
+    let rest = read_commit(rest, &mut event.commit)?;
+    Ok(rest)
 }
 
-/// Reads a cause.
+/// Reads a cause into `cause`.
 #[tactic(auto, unfolding(crate::specs::ReadingEvents::cause_at))]
-fn read_cause(bytes: &[u8]) -> Result<(Cause, &[u8]), Fault>
-    ensures { Gives (λ x. (x.0, x.1.now)) result (cause_at bytes.now) }
+fn read_cause<'a>(bytes: &'a [u8], cause: &mut Cause) -> Result<&'a [u8], Fault>
+    ensures { Gives (λ rest. (cause.new, rest.now)) result (cause_at bytes.now) }
 {
     let (kind, rest) = read_cause_kind(bytes)?;
-    read_cause_fields(kind, rest)
-}
-
-/// Reads the fields of a cause of this kind.
-#[tactic(auto, unfolding(crate::specs::ReadingEvents::cause_fields_at))]
-fn read_cause_fields(kind: CauseKind, bytes: &[u8]) -> Result<(Cause, &[u8]), Fault>
-    ensures { Gives (λ x. (x.0, x.1.now)) result (cause_fields_at kind bytes.now) }
-{
     match kind {
-        CauseKind::Op => {
-            let (stream, rest) = read_within(bytes, FieldName::Stream, 0, 63)?;
-            let (index, rest) = read_u32(rest)?;
-            let (op, rest) = read_op(rest)?;
-            Ok((Cause::Op { stream, index, op }, rest))
-        }
-        CauseKind::Take => {
-            let (host, rest) = read_within(bytes, FieldName::Host, 0, 15)?;
-            let (message, rest) = read_message(rest)?;
-            Ok((Cause::Take { host, message }, rest))
-        }
-        CauseKind::Act => {
-            let (act, rest) = read_act(bytes)?;
-            Ok((Cause::Act(act), rest))
-        }
+        CauseKind::Op => read_begun(rest, cause),
+        CauseKind::Take => read_taken(rest, cause),
+        CauseKind::Act => read_done(rest, cause),
     }
 }
 
-/// Reads a sent message.
-#[tactic(auto, unfolding(crate::specs::ReadingEvents::out_at))]
-fn read_out(bytes: &[u8]) -> Result<(Out, &[u8]), Fault>
-    ensures { Gives (λ x. (x.0, x.1.now)) result (out_at bytes.now) }
+/// Reads the fields of an operation that begins into `cause`.
+#[tactic(auto, unfolding(crate::specs::ReadingEvents::cause_fields_at))]
+fn read_begun<'a>(bytes: &'a [u8], cause: &mut Cause) -> Result<&'a [u8], Fault>
+    ensures { Gives (λ rest. (cause.new, rest.now)) result (cause_fields_at CauseKind.Op bytes.now) }
+{
+    let (stream, rest) = read_within(bytes, FieldName::Stream, 0, 63)?;
+    let (index, rest) = read_u32(rest)?;
+    let mut op = BLANK_OP;
+    let rest = read_op(rest, &mut op)?;
+    *cause = Cause::Op { stream, index, op };
+    Ok(rest)
+}
+
+/// Reads the fields of a message that is taken into `cause`.
+#[tactic(auto, unfolding(crate::specs::ReadingEvents::cause_fields_at))]
+fn read_taken<'a>(bytes: &'a [u8], cause: &mut Cause) -> Result<&'a [u8], Fault>
+    ensures { Gives (λ rest. (cause.new, rest.now)) result (cause_fields_at CauseKind.Take bytes.now) }
 {
     let (host, rest) = read_within(bytes, FieldName::Host, 0, 15)?;
-    let (message, rest) = read_message(rest)?;
-    Ok((Out { host, message }, rest))
+    let mut message = BLANK_MESSAGE;
+    let rest = read_message(rest, &mut message)?;
+    *cause = Cause::Take { host, message };
+    Ok(rest)
 }
 
-/// Reads the messages that an event sends.
+/// Reads an act that is done into `cause`.
+#[tactic(auto, unfolding(crate::specs::ReadingEvents::cause_fields_at))]
+fn read_done<'a>(bytes: &'a [u8], cause: &mut Cause) -> Result<&'a [u8], Fault>
+    ensures { Gives (λ rest. (cause.new, rest.now)) result (cause_fields_at CauseKind.Act bytes.now) }
+{
+    let (act, rest) = read_act(bytes)?;
+    *cause = Cause::Act(act);
+    Ok(rest)
+}
+
+/// Reads a sent message into `sent`.
+#[tactic(auto, unfolding(crate::specs::ReadingEvents::out_at))]
+fn read_out<'a>(bytes: &'a [u8], sent: &mut Out) -> Result<&'a [u8], Fault>
+    ensures { Gives (λ rest. (sent.new, rest.now)) result (out_at bytes.now) }
+{
+    let (host, rest) = read_within(bytes, FieldName::Host, 0, 15)?;
+    sent.host = host;
+    let rest = read_message(rest, &mut sent.message)?;
+    Ok(rest)
+}
+
+/// Reads the messages that an event sends into `sends`.
 #[tactic(auto, unfolding(crate::specs::ReadingEvents::sends_at))]
-fn read_sends(bytes: &[u8]) -> Result<(Sends, &[u8]), Fault>
-    ensures { Gives (λ x. (x.0, x.1.now)) result (sends_at bytes.now) }
+fn read_sends<'a>(bytes: &'a [u8], sends: &mut Sends) -> Result<&'a [u8], Fault>
+    ensures { Gives (λ rest. (sends.new, rest.now)) result (sends_at bytes.now) }
 {
     let (count, rest) = read_within(bytes, FieldName::SendCount, 0, 2)?;
-    read_outs(count, rest)
+    read_outs(count, rest, sends)
 }
 
-/// Reads so many sent messages, two at most.
+/// Reads so many sent messages, two at most, into `sends`.
 #[tactic(auto, unfolding(crate::specs::ReadingEvents::outs_at))]
-fn read_outs(count: u8, bytes: &[u8]) -> Result<(Sends, &[u8]), Fault>
-    ensures { Gives (λ x. (x.0, x.1.now)) result (outs_at count bytes.now) }
+fn read_outs<'a>(count: u8, bytes: &'a [u8], sends: &mut Sends) -> Result<&'a [u8], Fault>
+    ensures { Gives (λ rest. (sends.new, rest.now)) result (outs_at count bytes.now) }
 {
     match count {
-        0 => Ok((Sends::Nothing, bytes)),
+        0 => {
+            *sends = Sends::Nothing;
+            Ok(bytes)
+        }
         1 => {
-            let (first, rest) = read_out(bytes)?;
-            Ok((Sends::One(first), rest))
+            let mut first = BLANK_OUT;
+            let rest = read_out(bytes, &mut first)?;
+            *sends = Sends::One(first);
+            Ok(rest)
         }
         _ => {
-            let (first, rest) = read_out(bytes)?;
-            let (second, rest) = read_out(rest)?;
-            Ok((Sends::Two(first, second), rest))
+            let mut first = BLANK_OUT;
+            let rest = read_out(bytes, &mut first)?;
+            let mut second = BLANK_OUT;
+            let rest = read_out(rest, &mut second)?;
+            *sends = Sends::Two(first, second);
+            Ok(rest)
         }
     }
 }
 
-/// Reads whether there is a commit, and the commit.
+/// Reads whether there is a commit, and the commit, into `commit`.
 #[tactic(auto, unfolding(crate::specs::ReadingEvents::commit_at))]
-fn read_commit(bytes: &[u8]) -> Result<(Option<Commit>, &[u8]), Fault>
-    ensures { Gives (λ x. (x.0, x.1.now)) result (commit_at bytes.now) }
+fn read_commit<'a>(bytes: &'a [u8], commit: &mut Option<Commit>) -> Result<&'a [u8], Fault>
+    ensures { Gives (λ rest. (commit.new, rest.now)) result (commit_at bytes.now) }
 {
     let (flag, rest) = read_within(bytes, FieldName::CommitFlag, 0, 1)?;
-    read_flagged(flag, rest)
+    read_flagged(flag, rest, commit)
 }
 
-/// Reads the commit behind a flag of 1.
+/// Reads the commit behind a flag of 1 into `commit`.
 #[tactic(auto, unfolding(crate::specs::ReadingEvents::flagged_at))]
-fn read_flagged(flag: u8, bytes: &[u8]) -> Result<(Option<Commit>, &[u8]), Fault>
-    ensures { Gives (λ x. (x.0, x.1.now)) result (flagged_at flag bytes.now) }
+fn read_flagged<'a>(
+    flag: u8,
+    bytes: &'a [u8],
+    commit: &mut Option<Commit>,
+) -> Result<&'a [u8], Fault>
+    ensures { Gives (λ rest. (commit.new, rest.now)) result (flagged_at flag bytes.now) }
 {
     match flag {
-        0 => Ok((None, bytes)),
+        0 => {
+            *commit = None;
+            Ok(bytes)
+        }
         _ => {
             let (stream, rest) = read_within(bytes, FieldName::Stream, 0, 63)?;
             let (index, rest) = read_u32(rest)?;
-            let (op, rest) = read_op(rest)?;
+            let mut op = BLANK_OP;
+            let rest = read_op(rest, &mut op)?;
             let (value, rest) = read_payload(rest)?;
-            let commit = Commit {
+            *commit = Some(Commit {
                 stream,
                 index,
                 op,
-                value,
-            };
-            Ok((Some(commit), rest))
+                value: Bytes64(*value),
+            });
+            Ok(rest)
         }
     }
 }

@@ -19,6 +19,7 @@ use std::alloc::AllocError;
 /// host of each stream (own rule). The error is want of memory, and `out` is then as before.
 pub fn encode_header(setup: &Setup, out: &mut Vec<u8>) -> Result<(), AllocError>
     ensures ok { OnOk result (out.new.items ≡ out.old.items ++ header_bytes setup.now) }
+    ensures fits { IsWithinLimits setup.now }
     ensures err { OnErr result (out.new.items ≡ out.old.items) }
 {
     let streams = setup.streams();

@@ -22,21 +22,33 @@ pub enum OpKind {
     Whole,
 }
 
-/// The kinds of act.
+/// The kinds of act, with those that share their fields together.
 #[derive(Clone, Copy)]
 pub enum ActKind {
+    Line(LineActKind),
+    Tagged(TaggedActKind),
+    HostReturn,
+    Snoop,
+    DeviceReturn,
+}
+
+/// The acts that name a line.
+#[derive(Clone, Copy)]
+pub enum LineActKind {
     Conflict,
     WriteBack,
     Answer,
     AnswerBlock,
-    HostReturn,
+    Finish,
+}
+
+/// The acts that name a host and a tag.
+#[derive(Clone, Copy)]
+pub enum TaggedActKind {
     Serve,
     Clean,
     Start,
     Evict,
-    Snoop,
-    Finish,
-    DeviceReturn,
 }
 
 /// The kinds of message, with the opcodes of those that share their fields.
@@ -84,17 +96,17 @@ pub fn act_kind(code: u8) -> Option<ActKind>
     ensures { result ≡ find (λ k. act_kind_code k == code) act_kinds }
 {
     match code {
-        0x01 => Some(ActKind::Conflict),
-        0x02 => Some(ActKind::WriteBack),
-        0x03 => Some(ActKind::Answer),
-        0x04 => Some(ActKind::AnswerBlock),
+        0x01 => Some(ActKind::Line(LineActKind::Conflict)),
+        0x02 => Some(ActKind::Line(LineActKind::WriteBack)),
+        0x03 => Some(ActKind::Line(LineActKind::Answer)),
+        0x04 => Some(ActKind::Line(LineActKind::AnswerBlock)),
         0x05 => Some(ActKind::HostReturn),
-        0x11 => Some(ActKind::Serve),
-        0x12 => Some(ActKind::Clean),
-        0x13 => Some(ActKind::Start),
-        0x14 => Some(ActKind::Evict),
+        0x11 => Some(ActKind::Tagged(TaggedActKind::Serve)),
+        0x12 => Some(ActKind::Tagged(TaggedActKind::Clean)),
+        0x13 => Some(ActKind::Tagged(TaggedActKind::Start)),
+        0x14 => Some(ActKind::Tagged(TaggedActKind::Evict)),
         0x15 => Some(ActKind::Snoop),
-        0x16 => Some(ActKind::Finish),
+        0x16 => Some(ActKind::Line(LineActKind::Finish)),
         0x17 => Some(ActKind::DeviceReturn),
         _ => None,
     }

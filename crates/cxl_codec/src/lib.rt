@@ -12,6 +12,7 @@ mod faults;
 mod fields;
 mod headers;
 mod kinds;
+mod laws;
 mod messages;
 mod openings;
 mod operations;
@@ -20,9 +21,10 @@ mod refusals;
 mod writing;
 
 pub use ends::{decode_end, encode_end};
-pub use events::{decode_event, encode_event};
+pub use events::{decode_event, decode_event_into, encode_event};
 pub use fields::FieldName;
 pub use headers::{decode_header, encode_header};
+pub use laws::{one_answer, one_spelling, one_trace, read_again};
 pub use openings::{decode_opening, encode_opening};
 pub use refusals::DecodeRefusal;
 

@@ -19,6 +19,7 @@ use std::alloc::AllocError;
 pub fn encode_opening(line: Line, bytes: &Bytes64, out: &mut Vec<u8>) -> Result<(), AllocError>
     requires { line.0 < 65536 }
     ensures ok { OnOk result (out.new.items ≡ out.old.items ++ opening_bytes (line, bytes.now)) }
+    ensures fits { OnOk result (OpeningFits (line, bytes.now)) }
     ensures err { OnErr result (out.new.items ≡ out.old.items) }
 {
     out.reserve(67)?;
@@ -49,6 +50,6 @@ fn read_opening(bytes: &[u8]) -> Result<((Line, Bytes64), &[u8]), Fault>
     let (_, rest) = read_within(bytes, FieldName::Agent, 0xf0, 0xf0)?;
     let (line, rest) = read_u16(rest)?;
     let (bytes, rest) = read_payload(rest)?;
-    let opened = (Line(u32::from(line)), bytes);
+    let opened = (Line(u32::from(line)), Bytes64(*bytes));
     Ok((opened, rest))
 }

@@ -9,7 +9,7 @@ ghost use Rattle.cxl_codec.specs.Reading.{Gives, field_of, within, number_at, fr
 
 use crate::faults::Fault;
 use crate::fields::FieldName;
-use cxl_message::{BiTag, Bytes64, Channel, Line, Meta, SnpOp, SnpType, Span, Tag};
+use cxl_message::{BiTag, Channel, Line, Meta, SnpOp, SnpType, Span, Tag};
 
 /// A byte of a field that is a number within these limits.
 #[inline(always)]
@@ -115,18 +115,15 @@ pub fn read_line(bytes: &[u8]) -> Result<(Line, &[u8]), Fault>
     Ok((Line(number), rest))
 }
 
-/// The 64 bytes of a line.
+/// The 64 bytes of a line, where they stand.
 #[inline(always)]
-pub fn read_payload(bytes: &[u8]) -> Result<(Bytes64, &[u8]), Fault>
-    ensures { Gives (λ x. (x.0, x.1.now)) result (payload_at bytes.now) }
+pub fn read_payload(bytes: &[u8]) -> Result<(&[u8; 64], &[u8]), Fault>
+    ensures { Gives (λ x. (record { 0 = x.0.now }, x.1.now)) result (payload_at bytes.now) }
 {
-    if bytes.len() < 64 {
-        return Err(Fault::Short);
+    match bytes.split_first_chunk::<64>() {
+        None => Err(Fault::Short),
+        Some((front, rest)) => Ok((front, rest)),
     }
-    let (front, rest) = bytes.split_at(64);
-    let mut payload = [0; 64];
-    payload.copy_from_slice(front);
-    Ok((Bytes64(payload), rest))
 }
 
 /// A Meta0-State value.

@@ -1,44 +1,67 @@
+ghost use Rattle.std.specs.Prelude.{◌≡◌, ◌++◌, OnOk};
+
+mod damage;
+mod examples;
+mod places;
+
 use super::*;
 use cxl_message::Setup;
+use std::alloc::{AllocError, Global};
 use std::test::Fail;
+
+// Some parts, one after the other.
+fn joined(alloc: Global, parts: &[&[u8]]) -> Result<Vec<u8>, AllocError> {
+    let mut all = Vec::new(alloc);
+    for part in parts {
+        all.extend_from_slice(part)?;
+    }
+    Ok(all)
+}
 
 #[test]
 fn nothing(rt: HostRuntime) -> Result<(), Fail> {
     let setup = Setup::new(1, 1, 1, 1, 2, 2, &[])?;
     let mut out = Vec::new(rt.alloc());
     encode_header(&setup, &mut out)?;
+    encode_end(0, &mut out)?;
     assert_eq!(rt;
         out.as_slice(),
-        b"\x43\x58\x4c\x54\x01\x01\x00\x00\x00\x00\x00\x02\x02\x00".as_slice()
+        b"CXLT\x01\x01\x00\x00\x00\x00\x00\x02\x02\x00\xff\x00\x00\x00\x00\x00\x00\x00\x00".as_slice()
     );
-    encode_end(0, &mut out)?;
-    assert_eq!(rt; out.len(), 23);
-    assert_eq!(rt;
-        &out[14..],
-        b"\xff\x00\x00\x00\x00\x00\x00\x00\x00".as_slice()
-    );
+    assert_eq!(rt; decode_header(&out)?, (setup, 14));
+    assert_eq!(rt; decode_end(&out[14..])?, (0, 9));
     Ok(())
 }
 
 #[test]
-fn headers_of_all_limits(rt: HostRuntime) -> Result<(), Fail> {
+fn headers_and_ends_of_large_numbers(rt: HostRuntime) -> Result<(), Fail> {
     let setup = Setup::new(16, 65536, 4096, 256, 64, 63, &[0, 15, 3])?;
     let mut out = Vec::new(rt.alloc());
     encode_header(&setup, &mut out)?;
+    encode_end(0x0102_0304_0506_0708, &mut out)?;
     assert_eq!(rt;
         out.as_slice(),
-        b"CXLT\x01\x10\xff\xff\x0f\xff\xff\x40\x3f\x03\x00\x0f\x03".as_slice()
+        b"CXLT\x01\x10\xff\xff\x0f\xff\xff\x40\x3f\x03\x00\x0f\x03\xff\x01\x02\x03\x04\x05\x06\x07\x08".as_slice()
     );
+    assert_eq!(rt; decode_header(&out)?, (setup, 17));
+    assert_eq!(rt; decode_end(&out[17..])?, (0x0102_0304_0506_0708, 9));
     Ok(())
 }
 
 #[test]
-fn ends_of_many_events(rt: HostRuntime) -> Result<(), Fail> {
-    let mut out = Vec::new(rt.alloc());
-    encode_end(0x0102_0304_0506_0708, &mut out)?;
+fn names(rt: HostRuntime) -> Result<(), Fail> {
+    let refusal = DecodeRefusal::Field {
+        at: 3,
+        which: FieldName::LowAddr,
+    };
     assert_eq!(rt;
-        out.as_slice(),
-        b"\xff\x01\x02\x03\x04\x05\x06\x07\x08".as_slice()
+        format!(in rt.alloc(); "{refusal}")?.as_str(),
+        "field LowAddr"
     );
+    assert_eq!(rt;
+        format!(in rt.alloc(); "{}", DecodeRefusal::Short)?.as_str(),
+        "short"
+    );
+    assert_eq!(rt; FieldName::SnpType.name(), "SnpType");
     Ok(())
 }

@@ -1,6 +1,7 @@
 // Bytes at the end of a vector that has room for them.
 ghost use Rattle.std.specs.Prelude.{◌≡◌, ◌+◌, ◌≤◌, ◌++◌, length, vec_len, vec_capacity};
 ghost use Rattle.cxl_codec.specs.Cells.{bytes_of, payload};
+ghost use Rattle.cxl_codec.specs.Openings.{IsPayload};
 
 use cxl_message::Bytes64;
 
@@ -21,6 +22,7 @@ pub fn put(out: &mut Vec<u8>, bytes: &[u8])
 pub fn put_payload(out: &mut Vec<u8>, bytes: &Bytes64)
     requires { vec_len out.old + 64 ≤ vec_capacity out.old }
     ensures items { out.new.items ≡ out.old.items ++ bytes_of (payload bytes.now) }
+    ensures range { IsPayload bytes.now }
     ensures len { vec_len out.new ≡ vec_len out.old + 64 }
     ensures capacity { vec_capacity out.old ≤ vec_capacity out.new }
 {

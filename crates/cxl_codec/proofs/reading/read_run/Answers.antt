@@ -1,5 +1,4 @@
-use Rattle.std.proofs.Common.{◌≡◌, ◌≤◌, length, refl, ap, ◌∙◌, arith}
-use Rattle.cxl_codec.specs.Reading.{run_at}
+use Rattle.std.proofs.Common.{◌≡◌, arith}
 use Rattle.cxl_codec.proofs.Runs.{goes_on, ends_short, ends_wrong, is_done, done_at}
 use Rattle.cxl_codec.proofs.reading.read_run.Goals as goal
 

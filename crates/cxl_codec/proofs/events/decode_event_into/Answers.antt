@@ -4,7 +4,7 @@ use Rattle.cxl_codec.specs.Events.{event_cells, EventFits}
 use Rattle.cxl_codec.specs.ReadingEvents.{event_at}
 use Rattle.cxl_codec.proofs.Meanings.{bytes_from, found, refused, rest_shorter}
 use Rattle.cxl_codec.proofs.EventReads.{event_meets}
-use Rattle.cxl_codec.proofs.events.decode_event.Goals as goal
+use Rattle.cxl_codec.proofs.events.decode_event_into.Goals as goal
 
 pub overflow_sub-result : goal.overflow_sub-result
 overflow_sub-result c =
