@@ -1,8 +1,11 @@
 // The command `drive`: a script in, its driven trace out.
-ghost use Rattle.std.specs.Prelude.{◌≡◌, ◌⊎◌, ◌^◌, ◌<◌, ◌≤◌, ◌==◌, [], Some, IfOk, IfSome, IsTrue, length};
+ghost use Rattle.std.specs.Prelude.{◌≡◌, ◌≢◌, ◌⊎◌, ◌^◌, ◌<◌, ◌≤◌, ◌==◌, [], Some, IfErr, IfOk, IfSome, IsTrue, length};
 ghost use Rattle.std.specs.Io.KnownBytes.{Appends};
 ghost use Rattle.cxl_codec.specs.Traces.{trace_bytes};
-ghost use Rattle.script_text.specs.Script.{is_first_script, operation_count};
+ghost use Rattle.cxl_message.specs.Script.{ScriptValue};
+ghost use Rattle.script_text.specs.Refusals.{IfBad};
+ghost use Rattle.script_text.specs.Script.{IsScript, is_first_script, operation_count};
+ghost use Rattle.script_text.specs.Spelling.{script_bytes};
 ghost use Rattle.cxl_message.specs.Setup.{IsWithinLimits};
 ghost use Rattle.cxlmem.specs.Statuses.{IsAnswer};
 ghost use Rattle.cxlmem.specs.Texts.{read_fault_text, not_built_text};
@@ -13,7 +16,7 @@ use crate::ends::{Status, not_built, read_fault};
 use cxl_codec::{encode_end, encode_header};
 use cxl_message::Setup;
 use outside_io::{ReadAllRefusal, Sink, Source, read_all, write_all};
-use script_text::{Script, ScriptRefusal, parse_script};
+use script_text::{Script, ScriptReason, ScriptRefusal, is_first, parse_script};
 use std::alloc::{AllocError, Global};
 
 // The most bytes that a script has.
@@ -60,7 +63,7 @@ fn drive_input<K: Sink>(alloc: Global, input: &[u8], sink: &mut K) -> Status
     ensures cut_short { result ≡ Status.WriteFault → DrivesFront input.now (K.gone sink.old) (K.gone sink.new) }
     ensures unwritten { result ≡ Status.Memory → Appends (K.gone sink.old) (K.gone sink.new) [] }
 {
-    match parse_script(alloc, input) {
+    match first_script(alloc, input) {
         Ok(script) => {
             if is_idle(&script) {
                 write_idle_trace(alloc, script.setup(), sink)
@@ -70,6 +73,26 @@ fn drive_input<K: Sink>(alloc: Global, input: &[u8], sink: &mut K) -> Status
         }
         Err(ScriptRefusal::Bad { .. }) => not_built(sink),
         Err(ScriptRefusal::Memory) => Status::Memory,
+    }
+}
+
+/// The first script that the input spells: any other input is refused by Bad.
+fn first_script(alloc: Global, input: &[u8]) -> Result<Script, ScriptRefusal>
+    requires { length input.now ≤ script_limit }
+    ensures spelled { IfOk result (λ script. input.now ≡ script_bytes script) }
+    ensures script { IfOk result IsScript }
+    ensures first { IfOk result (λ script. IsTrue (is_first_script script)) }
+    ensures only { IfOk result (λ script. (other : ScriptValue) → IsScript other → input.now ≡ script_bytes other → other ≡ script) }
+    ensures bad { IfErr result (λ refusal. IfBad refusal (λ line reason. (other : ScriptValue) → IsScript other → IsTrue (is_first_script other) → input.now ≢ script_bytes other)) }
+{
+    let script = parse_script(alloc, input)?;
+    if is_first(&script) {
+        Ok(script)
+    } else {
+        Err(ScriptRefusal::Bad {
+            line: 1,
+            reason: ScriptReason::Spelling,
+        })
     }
 }
 

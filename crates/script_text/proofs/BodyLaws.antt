@@ -1,12 +1,11 @@
 -- What one line more does to a script: it stands after the script's lines, and what it makes is a script.
-use Rattle.std.proofs.Common.{◌≡◌, ℕ, zero, suc, ◌+◌, ◌^◌, ◌<◌, ◌≤◌, Bool, true, false, IsTrue, cond, List, [], ◌∷◌, ◌++◌, length, map, Option, Some, None, refl, sym, ap, subst, ◌∙◌, append_assoc, arith}
+use Rattle.std.proofs.Common.{◌≡◌, ℕ, suc, ◌+◌, ◌^◌, ◌<◌, ◌≤◌, Bool, true, false, IsTrue, cond, List, [], ◌∷◌, ◌++◌, length, map, Option, Some, None, refl, sym, ap, ◌∙◌, append_assoc, arith}
 use Rattle.std.specs.Prelude.{◌==◌, ◌&&◌, not, nat_lt, nat_le}
-use Rattle.std.specs.List.{list_all, sum_by}
-use Rattle.std.proofs.lemmas.Bool.{and_parts, and_from, eqb-true, ltb-true, lt-ltb, leb-true, le-leb, not-true}
-use Rattle.std.proofs.lemmas.List.{append-nil, length_push, map_push, nil_from_length}
+use Rattle.std.specs.List.{list_all}
+use Rattle.std.proofs.lemmas.Bool.{and_parts, and_from, eqb-true, ltb-true, lt-ltb, not-true}
+use Rattle.std.proofs.lemmas.List.{append-nil, length_push, map_push}
 use Rattle.std.proofs.lemmas.List.Folds.{list_all-append}
 use Rattle.std.proofs.lemmas.List.Sums.{sum_by_push}
-use Rattle.cxl_message.specs.declared.identifiers.Line.{Line}
 use Rattle.cxl_message.specs.declared.identifiers.Bytes64.{Bytes64}
 use Rattle.cxl_message.specs.declared.events.Op.{Op}
 use Rattle.cxl_message.specs.Codes.{bytes_eq}
@@ -17,9 +16,8 @@ use Rattle.cxl_message.proofs.Ascending.{opening_added}
 use Rattle.script_text.specs.declared.lines.ScriptLine.{ScriptLine}
 use Rattle.script_text.specs.declared.refusals.ScriptReason.{ScriptReason}
 use Rattle.script_text.specs.Spelling.{open_line, op_line, stream_lines, body_lines}
-use Rattle.script_text.specs.Script.{are_line_bytes, op_fits, operation_count, IsScript}
+use Rattle.script_text.specs.Script.{IsSpelled, are_line_bytes, op_fits, operation_count, IsScript}
 use Rattle.script_text.specs.Refusals.{takes_openings, takes_operations, op_refusal, line_refusal, with_op, with_line}
-use Rattle.script_text.proofs.LineLaws.{IsSpelled}
 use Rattle.script_text.proofs.Streams.{count-with_op}
 
 -- a test that doesn't refuse

@@ -1,13 +1,13 @@
 -- The seven lines that are read are those that are spelled so, and what is spelled so is read.
-use Rattle.std.proofs.Common.{◌≡◌, ℕ, ◌+◌, ◌^◌, ◌<◌, ◌≤◌, Bool, true, false, cond, List, [], ◌∷◌, ◌++◌, length, Option, Some, None, Result, Ok, Err, refl, sym, ap, subst, ◌∙◌, inl, inr, append_assoc, arith}
-use Rattle.std.specs.Prelude.{◌==◌, ◌&&◌, nat_le, codes}
+use Rattle.std.proofs.Common.{◌≡◌, ℕ, ◌^◌, ◌<◌, ◌≤◌, true, false, cond, List, [], ◌∷◌, ◌++◌, length, Option, Some, None, Result, Ok, Err, refl, sym, ap, subst, ◌∙◌, inl, inr, append_assoc, arith}
+use Rattle.std.specs.Prelude.{◌==◌, codes}
 use Rattle.std.specs.List.{flat_map}
 use Rattle.std.specs.Option.{option_map, option_and_then}
 use Rattle.std.specs.Fmt.{decimal}
 use Rattle.std.specs.Str.{bytes_eq}
-use Rattle.std.proofs.lemmas.Bool.{and_parts, and_from, ne_eqb, cond-true, cond-false, leb-true, le-leb}
+use Rattle.std.proofs.lemmas.Bool.{and_parts, and_from, ne_eqb, leb-true, le-leb}
 use Rattle.std.proofs.lemmas.List.{length-append}
-use Rattle.std.proofs.lemmas.Option.{cond_some, same_Some, none-some}
+use Rattle.std.proofs.lemmas.Option.{same_Some, none-some}
 use Rattle.std.proofs.lemmas.Slice.Eq.{bytes_eq-Decides}
 use Rattle.cxl_message.specs.Script.{ScriptValue}
 use Rattle.cxl_message.specs.Setup.{Configuration, IsWithinLimits, is_within}
@@ -28,13 +28,15 @@ behind_again : (word : List ℕ) (n : ℕ) → Lacks 32 word → n < 10 ^ 10 →
 unfolding number_behind
 behind_again word n space below = rw (parts_again 32 word (decimal n) space, (bytes_eq-Decides word word).1 refl, number_again n below) refl
 
-setting_again : (word : List ℕ) (n : ℕ) (rest : List ℕ) → Lacks 10 word → Lacks 32 word → n < 10 ^ 10 → setting_in word (setting word n ++ rest) ≡ Some (n, rest)
+-- a line that is spelled so is found
+pub setting_again : (word : List ℕ) (n : ℕ) (rest : List ℕ) → Lacks 10 word → Lacks 32 word → n < 10 ^ 10 → setting_in word (setting word n ++ rest) ≡ Some (n, rest)
 unfolding setting_in
 setting_again word n rest feed space below =
     let lacks = lacks-append 10 word (32 ∷ decimal n) feed (decimal_lacks 10 n (omega arith) below) in
     ap (setting_in word) (append_assoc (word ++ 32 ∷ decimal n) (10 ∷ []) rest) ∙ rw (parts_again 10 (word ++ 32 ∷ decimal n) rest lacks, behind_again word n space below) refl
 
-number_line_again : (k : ℕ) (word : List ℕ) (least most n : ℕ) (rest : List ℕ) → Lacks 10 word → Lacks 32 word → n < 10 ^ 10 → least ≤ n → n ≤ most → number_at k word least most (setting word n ++ rest) ≡ Ok (n, rest)
+-- within its limits it is taken
+pub number_line_again : (k : ℕ) (word : List ℕ) (least most n : ℕ) (rest : List ℕ) → Lacks 10 word → Lacks 32 word → n < 10 ^ 10 → least ≤ n → n ≤ most → number_at k word least most (setting word n ++ rest) ≡ Ok (n, rest)
 unfolding number_at
 number_line_again k word least most n rest feed space below low high =
     let some : (length (setting word n ++ rest) == 0) ≡ false =
@@ -59,7 +61,8 @@ mapped : {A B : Type 0} (o : Option A) (f : A → B) → option_and_then (λ x. 
 mapped (Some x) f = refl
 mapped None f = refl
 
-setting_take : (word text : List ℕ) (found : ℕ × List ℕ) → setting_in word text ≡ Some found → text ≡ setting word found.0 ++ found.1
+-- a line of a word and a number that was found
+pub setting_take : (word text : List ℕ) (found : ℕ × List ℕ) → setting_in word text ≡ Some found → (text ≡ setting word found.0 ++ found.1) × (found.0 < 10 ^ 10)
 unfolding setting_in
 setting_take word text found e =
     let a = bind_some (parts_at 10 text) (λ parts. option_map (λ n. (n, parts.1)) (number_behind word parts.0)) found e in
@@ -67,7 +70,7 @@ setting_take word text found e =
     let number = behind_take word a.0.0 b.0 b.1 in
     let made : ℕ × List ℕ = (b.0, a.0.1) in
     let split : text ≡ setting word b.0 ++ a.0.1 = parts_take 10 text a.0 a.1 ∙ ap (λ (w : List ℕ). w ++ 10 ∷ a.0.1) number.0 ∙ sym (append_assoc (word ++ 32 ∷ decimal b.0) (10 ∷ []) a.0.1) in
-    subst (λ (x : ℕ × List ℕ). text ≡ setting word x.0 ++ x.1) (same_Some made found b.2) split
+    subst (λ (x : ℕ × List ℕ). (text ≡ setting word x.0 ++ x.1) × (x.0 < 10 ^ 10)) (same_Some made found b.2) (split, number.1)
 
 same_Ok : {A : Type 0} (x y : A) → ◌≡◌ {A = Result A ScriptRefusal} (Ok x) (Ok y) → x ≡ y
 same_Ok x y e = cc
@@ -89,7 +92,7 @@ pub number_line_take : (k : ℕ) (word : List ℕ) (least most : ℕ) (text : Li
 unfolding number_at
 number_line_take k word least most text found e = elim (chosen (length text == 0) _ _ (Ok found) e) [
   | inl is ↦ absurd (err-ok _ found is.1)
-  | inr is ↦ let read = limited_take k least most (setting_in word text) found is.1 in (setting_take word text found read.0, read.1, read.2)
+  | inr is ↦ let read = limited_take k least most (setting_in word text) found is.1 in ((setting_take word text found read.0).0, read.1, read.2)
 ]
 
 -- ---- all seven

@@ -8,3 +8,6 @@ pub mod BodyLaws
 pub mod RunLaws
 pub mod WholeLaws
 pub mod Readings
+pub mod HeadFailures
+pub mod Failing
+pub mod Appending

@@ -1,31 +1,20 @@
 -- A line that is read is the line that is spelled so, and what is spelled so is read.
-use Rattle.std.proofs.Common.{◌≡◌, ◌⊎◌, ℕ, zero, suc, ◌+◌, ◌*◌, ◌^◌, ◌/◌, ◌%◌, ◌<◌, Bool, true, false, IsTrue, List, [], ◌∷◌, ◌++◌, length, get_or, Option, Some, None, refl, sym, ap, subst, ◌∙◌, inl, inr, append_assoc, arith}
-use Rattle.std.specs.Prelude.{◌==◌, ◌&&◌, nat_lt, codes}
-use Rattle.std.specs.List.{list_all}
+use Rattle.std.proofs.Common.{◌≡◌, ℕ, zero, suc, ◌^◌, ◌/◌, ◌%◌, ◌<◌, Bool, true, IsTrue, List, [], ◌∷◌, ◌++◌, length, get_or, Some, refl, sym, ap, subst, ◌∙◌, inl, inr, append_assoc, arith}
+use Rattle.std.specs.Prelude.{◌&&◌, nat_lt, codes}
 use Rattle.std.specs.Fmt.{decimal}
 use Rattle.std.specs.Int.{w64, to_be_bytes, from_be_bytes}
 use Rattle.std.specs.Str.{bytes_eq}
 use Rattle.std.proofs.lemmas.Bool.{and_parts, and_from, eqb-true, eq-eqb, ltb-true, lt-ltb}
-use Rattle.std.proofs.lemmas.List.{get_or_past}
 use Rattle.std.proofs.lemmas.Nat.{be_bytes_8, from_be_bytes-to_be_bytes_8}
 use Rattle.std.proofs.lemmas.Option.{same_Some, none-some}
 use Rattle.std.proofs.lemmas.Slice.Eq.{bytes_eq-Decides}
 use Rattle.cxl_message.specs.declared.identifiers.Bytes64.{Bytes64}
 use Rattle.script_text.specs.declared.lines.ScriptLine.{ScriptLine}
-use Rattle.script_text.specs.Script.{are_line_bytes}
+use Rattle.script_text.specs.Script.{IsSpelled, are_line_bytes}
 use Rattle.script_text.specs.Spelling.{hex, line_text, line_bytes}
 use Rattle.script_text.specs.Words.{◌>>=◌, parts_at, number_in, just_bytes_in}
 use Rattle.script_text.specs.Lines.{line_and_bytes_in, word_in, line_of_word, line_in, first_line}
 use Rattle.script_text.proofs.WordLaws.{bind_some, Lacks, lacks-append, parts_take, parts_again, number_take, number_again, decimal_lacks, AreBytes, just_bytes_take, just_bytes_again, hex_lacks, chosen}
-
--- the numbers of a line have a spelling
-abbrev pub IsSpelled : ScriptLine → Type 0
-IsSpelled (ScriptLine.Open line bytes) = (line < 10 ^ 10) × IsTrue (are_line_bytes bytes)
-IsSpelled (ScriptLine.Stream host) = host < 10 ^ 10
-IsSpelled (ScriptLine.Load line) = line < 10 ^ 10
-IsSpelled (ScriptLine.Word line place value) = (line < 10 ^ 10) × (place < 10 ^ 10) × (value < 2 ^ 64)
-IsSpelled (ScriptLine.Whole line bytes) = (line < 10 ^ 10) × IsTrue (are_line_bytes bytes)
-IsSpelled (ScriptLine.Pick pick) = pick < 10 ^ 10
 
 -- ---- a number and 64 bytes
 

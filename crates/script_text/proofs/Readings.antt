@@ -1,5 +1,5 @@
 -- What was read of a text, and what is left of it.
-use Rattle.std.proofs.Common.{◌≡◌, ◌≢◌, ℕ, suc, ◌+◌, ◌<◌, ◌≤◌, List, [], ◌∷◌, ◌++◌, length, Option, Some, None, Result, Ok, Err, refl, sym, ap, subst, ◌∙◌, append_assoc, arith}
+use Rattle.std.proofs.Common.{◌≡◌, ◌≢◌, ℕ, ◌<◌, ◌≤◌, List, [], ◌∷◌, ◌++◌, length, Option, Some, None, Result, Ok, Err, refl, sym, ap, ◌∙◌, append_assoc, arith}
 use Rattle.std.proofs.lemmas.List.{append-nil, length-append}
 use Rattle.std.proofs.lemmas.List.Concat.{flat_map-append}
 use Rattle.std.proofs.lemmas.Option.{same_Some, none-some}
@@ -25,7 +25,8 @@ pub record Reads (bytes : List ℕ) (d : ScriptValue) (rest : List ℕ) : Type 0
   pub text : bytes ≡ head_bytes d ++ (text_of (body_lines d) ++ rest)
   pub script : IsScript d
 
-no_lines : (hosts : List ℕ) → stream_lines hosts [] ≡ []
+-- no operations, no lines of streams
+pub no_lines : (hosts : List ℕ) → stream_lines hosts [] ≡ []
 no_lines [] = refl
 no_lines (host ∷ hosts) = refl
 

@@ -1,26 +1,19 @@
 -- A text and the script that it spells: at most one, found line by line.
-use Rattle.std.proofs.Common.{◌≡◌, ℕ, zero, suc, ◌+◌, ◌^◌, ◌<◌, ◌≤◌, Bool, true, false, IsTrue, List, [], ◌∷◌, ◌++◌, length, map, Option, Some, None, refl, sym, ap, subst, ◌∙◌, append_assoc, arith}
-use Rattle.std.specs.Prelude.{◌==◌, ◌&&◌, nat_lt, nat_le}
+use Rattle.std.proofs.Common.{◌≡◌, ℕ, ◌^◌, ◌<◌, ◌≤◌, true, List, [], ◌∷◌, ◌++◌, map, None, refl, sym, ap, ◌∙◌, append_assoc, arith}
+use Rattle.std.specs.Prelude.{nat_lt, nat_le}
 use Rattle.std.specs.List.{list_all, flat_map}
-use Rattle.std.proofs.lemmas.Bool.{and_parts, and_from, eqb-true, eq-eqb, ltb-true, leb-true}
-use Rattle.std.proofs.lemmas.List.{append-nil, append_cancel_left}
-use Rattle.std.proofs.lemmas.List.Concat.{flat_map-append}
+use Rattle.std.proofs.lemmas.Bool.{and_parts, ltb-true, leb-true}
 use Rattle.std.proofs.lemmas.Option.{same_Some, none-some}
 use Rattle.cxl_message.specs.declared.identifiers.Line.{Line}
 use Rattle.cxl_message.specs.declared.identifiers.Bytes64.{Bytes64}
 use Rattle.cxl_message.specs.declared.events.Op.{Op}
 use Rattle.cxl_message.specs.Script.{ScriptValue}
-use Rattle.cxl_message.specs.Setup.{Configuration}
 use Rattle.script_text.specs.declared.lines.ScriptLine.{ScriptLine}
-use Rattle.script_text.specs.declared.refusals.ScriptReason.{ScriptReason}
-use Rattle.script_text.specs.Spelling.{open_line, op_line, stream_lines, body_lines, line_bytes, head_bytes, script_bytes}
-use Rattle.script_text.specs.Script.{are_line_bytes, op_fits, IsScript}
+use Rattle.script_text.specs.Spelling.{open_line, op_line, stream_lines, body_lines, line_bytes}
+use Rattle.script_text.specs.Script.{IsSpelled, are_line_bytes, op_fits, IsScript}
 use Rattle.script_text.specs.Lines.{first_line}
 use Rattle.script_text.specs.Words.{parts_at}
-use Rattle.script_text.specs.Refusals.{line_refusal, with_line}
-use Rattle.script_text.proofs.LineLaws.{IsSpelled, first_again, first_take}
-use Rattle.script_text.proofs.BodyLaws.{lines-with_line, IsScript-with_line}
-use Rattle.script_text.proofs.RunLaws.{unless_refused, run, run-append, run_all, whole}
+use Rattle.script_text.proofs.LineLaws.{first_again}
 
 -- ---- the lines of a script have a spelling
 

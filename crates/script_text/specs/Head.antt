@@ -1,6 +1,6 @@
 -- Reading the seven lines that a script begins with, as the parser does.
 use Rattle.std.specs.Prelude.{ℕ, List, [], Option, Some, None, Result, Ok, Err, ◌==◌, codes, if◌then◌else◌, length}
-use Rattle.std.specs.Option.{option_map, option_map_or, option_and_then}
+use Rattle.std.specs.Option.{option_map, option_and_then}
 use Rattle.std.specs.Str.{bytes_eq}
 use Rattle.cxl_message.specs.Setup.{Configuration, is_within}
 use Rattle.script_text.specs.declared.refusals.ScriptReason.{ScriptReason}

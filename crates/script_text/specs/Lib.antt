@@ -5,3 +5,4 @@ pub mod Words
 pub mod Lines
 pub mod Head
 pub mod Drafts
+pub mod Failures

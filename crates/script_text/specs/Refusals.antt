@@ -1,7 +1,5 @@
 -- Why a line of a script is refused. Every rule here is an own rule.
 use Rattle.std.specs.Prelude.{ℕ, Bool, List, [], ◌∷◌, ◌++◌, ◌≡◌, ◌&&◌, ◌==◌, not, nat_lt, nat_le, Option, Some, None, Result, Ok, Err, if◌then◌else◌, length}
-use Rattle.cxl_message.specs.declared.identifiers.Line.{Line}
-use Rattle.cxl_message.specs.declared.identifiers.Bytes64.{Bytes64}
 use Rattle.cxl_message.specs.declared.events.Op.{Op}
 use Rattle.cxl_message.specs.Codes.{bytes_eq}
 use Rattle.cxl_message.specs.Opening.{is_after_last, zero_bytes}

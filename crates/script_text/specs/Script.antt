@@ -1,11 +1,12 @@
 -- Which values are scripts, and which of them are first scripts. Every rule here is an own rule.
-use Rattle.std.specs.Prelude.{ℕ, Bool, true, false, List, ◌≡◌, ◌≤◌, ◌^◌, ◌&&◌, ◌==◌, not, nat_lt, nat_le, IsTrue, length}
+use Rattle.std.specs.Prelude.{ℕ, Bool, true, false, List, ◌≡◌, ◌<◌, ◌≤◌, ◌^◌, ◌&&◌, ◌==◌, not, nat_lt, nat_le, IsTrue, length}
 use Rattle.std.specs.List.{list_all, sum_by}
 use Rattle.cxl_message.specs.declared.identifiers.Bytes64.{Bytes64}
 use Rattle.cxl_message.specs.declared.events.Op.{Op}
 use Rattle.cxl_message.specs.Opening.{IsOpening, opening_fits}
 use Rattle.cxl_message.specs.Script.{ScriptValue}
 use Rattle.cxl_message.specs.Setup.{IsWithinLimits}
+use Rattle.script_text.specs.declared.lines.ScriptLine.{ScriptLine}
 
 -- whether these are 64 bytes
 abbrev pub are_line_bytes : Bytes64 → Bool
@@ -44,3 +45,12 @@ abbrev pub is_first_script : ScriptValue → Bool
 is_first_script s =
     (s.setup.hosts == 1) && nat_le (length s.setup.streams) 1 && nat_le s.setup.lines s.setup.entries && nat_le s.setup.lines s.setup.ways
     && (length s.opening == 0) && (length s.picks == 0) && list_all (λ ops. list_all (λ op. not (is_whole op)) ops) s.operations
+
+-- the numbers of a line have a spelling: up to ten decimal digits, a value of 64 bits, 64 bytes
+abbrev pub IsSpelled : ScriptLine → Type 0
+IsSpelled (ScriptLine.Open line bytes) = (line < 10 ^ 10) × IsTrue (are_line_bytes bytes)
+IsSpelled (ScriptLine.Stream host) = host < 10 ^ 10
+IsSpelled (ScriptLine.Load line) = line < 10 ^ 10
+IsSpelled (ScriptLine.Word line place value) = (line < 10 ^ 10) × (place < 10 ^ 10) × (value < 2 ^ 64)
+IsSpelled (ScriptLine.Whole line bytes) = (line < 10 ^ 10) × IsTrue (are_line_bytes bytes)
+IsSpelled (ScriptLine.Pick pick) = pick < 10 ^ 10

@@ -3,13 +3,17 @@
 
 mod drafts;
 mod head;
+mod laws;
 mod lines;
 mod parsing;
+mod printing;
 mod refusals;
 mod scripts;
 mod words;
 
-pub use parsing::parse_script;
+pub use laws::failures_are_alone;
+pub use parsing::{is_first, parse_script};
+pub use printing::print_script;
 pub use refusals::{ScriptReason, ScriptRefusal};
 pub use scripts::Script;
 

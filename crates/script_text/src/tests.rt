@@ -1,5 +1,7 @@
+mod refusals;
+
 use super::*;
-use cxl_message::{Line, Op};
+use cxl_message::{Bytes64, Line, Op};
 use std::alloc::{AllocError, Global};
 use std::process::Abort;
 use std::test::Fail;
@@ -57,90 +59,86 @@ fn silent_upgrade(rt: HostRuntime) -> Result<(), Fail> {
     Ok(())
 }
 
-const LINES: [&str; 9] = [
-    "hosts 1\n",
-    "lines 4\n",
-    "filter 4\n",
-    "ways 4\n",
-    "tags 2\n",
-    "credits 2\n",
-    "room 100\n",
-    "stream 0\n",
-    "load 0\n",
-];
-
-// Lines of a first script, by their places, and what stands there instead of them.
-const DAMAGES: [(usize, &str); 39] = [
-    (0, ""),
-    (1, ""),
-    (2, ""),
-    (3, ""),
-    (4, ""),
-    (5, ""),
-    (6, ""),
-    (0, "hosts hosts 1\n"),
-    (0, "hosts 01\n"),
-    (0, "hosts 1\r\n"),
-    (0, "hosts  1\n"),
-    (0, "hosts 1 \n"),
-    (0, "hosts \n"),
-    (0, "hosts 10000000001\n"),
-    (0, "lines 1\n"),
-    (0, "hosts 2\n"),
-    (1, "lines 0\n"),
-    (1, "lines 5\n"),
-    (2, "filter 3\n"),
-    (3, "ways 3\n"),
-    (3, "ways 257\n"),
-    (4, "tags 1\n"),
-    (5, "credits 65\n"),
-    (6, "room 0\n"),
-    (6, "room 200001\n"),
-    (6, "room 100\n\n"),
-    (7, "stream 1\n"),
-    (7, ""),
-    (
-        7,
-        "open 0 00000000000000000000000000000000000000000000000000000000000000000000000000000000000000000000000000000000000000000000000000000001\nstream 0\n",
-    ),
-    (7, "stream 0\nstream 0\n"),
-    (8, "load 4\n"),
-    (8, "load 0"),
-    (8, "word 0 8 00000000000000ff\n"),
-    (8, "word 0 0 00000000000000FF\n"),
-    (8, "word 0 0 0000000000000ff\n"),
-    (8, "word 0 0 000000000000000ff\n"),
-    (
-        8,
-        "whole 0 00000000000000000000000000000000000000000000000000000000000000000000000000000000000000000000000000000000000000000000000000000001\n",
-    ),
-    (8, "load 0\npick 0\n"),
-    (8, "store 0\n"),
-];
-
-// A first script of which the line at this place is replaced.
-fn damaged(alloc: Global, place: usize, line: &str) -> Result<String, AllocError> {
-    let mut text = String::new(alloc);
-    for (at, kept) in LINES.iter().enumerate() {
-        text.push_str(if at == place { line } else { kept })?;
+// A stream for each of the 64, and one more; operations up to the last, and one more.
+#[test]
+fn greatest_numbers(rt: HostRuntime) -> Result<(), Fail> {
+    let mut text = String::new(rt.alloc());
+    text.push_str(
+        "hosts 16\nlines 65536\nfilter 4096\nways 256\ntags 64\ncredits 64\nroom 200000\n",
+    )?;
+    for _ in 0..64 {
+        text.push_str("stream 15\n")?;
     }
-    Ok(text)
+    for _ in 0..65536 {
+        text.push_str("load 65535\n")?;
+    }
+    assert!(rt; text.len() < 1000000);
+    let script = parse_script(rt.alloc(), text.as_bytes())?;
+    assert_eq!(rt; script.setup().streams().len(), 64);
+    assert!(rt; script.setup().streams().len() == 64);
+    assert_eq!(rt; script.ops(63).len(), 65536);
+    let printed = print_script(rt.alloc(), &script)?;
+    assert!(rt; printed.as_slice() == text.as_bytes());
+    text.push_str("load 0\n")?;
+    assert!(rt; text.len() < 1000000);
+    let one_more = ScriptRefusal::Bad {
+        line: 65608,
+        reason: ScriptReason::Many,
+    };
+    assert_eq!(rt;
+        parse_script(rt.alloc(), text.as_bytes()).err(),
+        Some(one_more)
+    );
+    Ok(())
 }
 
 #[test]
-fn damages(rt: HostRuntime) -> Result<(), Fail> {
-    let kept = damaged(rt.alloc(), 9, "")?;
-    assert!(rt; first_script(&rt, rt.alloc(), kept.as_str()).is_ok());
-    for (place, line) in DAMAGES {
-        let text = damaged(rt.alloc(), place, line)?;
-        let refusal = ScriptRefusal::Bad {
-            line: 1,
-            reason: ScriptReason::Spelling,
-        };
-        match first_script(&rt, rt.alloc(), text.as_str()) {
-            Ok(_) => assert!(rt; false, "taken: {line} at {place}"),
-            Err(found) => assert_eq!(rt; found, refusal, "{line} at {place}"),
-        }
+fn one_stream_too_many(rt: HostRuntime) -> Result<(), Fail> {
+    let mut text = String::new(rt.alloc());
+    text.push_str("hosts 1\nlines 1\nfilter 1\nways 1\ntags 2\ncredits 2\nroom 1\n")?;
+    for _ in 0..65 {
+        text.push_str("stream 0\n")?;
     }
+    let many = ScriptRefusal::Bad {
+        line: 72,
+        reason: ScriptReason::Many,
+    };
+    assert!(rt; text.len() < 10000);
+    assert_eq!(rt; parse_script(rt.alloc(), text.as_bytes()).err(), Some(many));
+    Ok(())
+}
+
+const EVERY_FORM: &str =
+    "hosts 2\nlines 8\nfilter 4\nways 4\ntags 64\ncredits 2\nroom 200000\nopen 1 00000000000000000000000000000000000000000000000000000000000000000000000000000000000000000000000000000000000000000000000000000001\nopen 7 abababababababababababababababababababababababababababababababababababababababababababababababababababababababababababababababab\nstream 1\nload 7\nwhole 0 abababababababababababababababababababababababababababababababababababababababababababababababababababababababababababababababab\nstream 0\nstream 1\nword 3 7 0123456789abcdef\npick 0\npick 65535\n";
+
+// A script of every form is read whole.
+#[test]
+fn every_form(rt: HostRuntime) -> Result<(), Fail> {
+    assert!(rt; EVERY_FORM.len() < 1000);
+    let script = parse_script(rt.alloc(), EVERY_FORM.as_bytes())?;
+    assert_eq!(rt; script.setup().streams(), [1, 0, 1].as_slice());
+    assert!(rt; script.setup().streams().len() == 3);
+    let whole = Op::Whole {
+        line: Line(0),
+        bytes: Bytes64([0xab; 64]),
+    };
+    let word = Op::Word {
+        line: Line(3),
+        place: 7,
+        value: 0x0123456789abcdef,
+    };
+    assert_eq!(rt;
+        script.ops(0),
+        [Op::Load { line: Line(7) }, whole].as_slice()
+    );
+    assert_eq!(rt; script.ops(1).len(), 0);
+    assert_eq!(rt; script.ops(2), [word].as_slice());
+    let mut last = Bytes64([0; 64]);
+    last.0[63] = 1;
+    assert_eq!(rt; script.opening().bytes_at(Line(1)), last);
+    assert_eq!(rt; script.opening().bytes_at(Line(7)), Bytes64([0xab; 64]));
+    assert_eq!(rt; script.opening().pairs().len(), 2);
+    assert_eq!(rt; script.picks(), [0, 65535].as_slice());
+    assert!(rt; !is_first(&script));
     Ok(())
 }

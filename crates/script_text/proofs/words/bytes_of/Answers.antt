@@ -1,4 +1,4 @@
-use Rattle.std.proofs.Common.{◌≡◌, ◌+◌, ◌*◌, ◌<◌, length, take, arith, sym, ◌∙◌}
+use Rattle.std.proofs.Common.{◌+◌, ◌*◌, ◌<◌, length, take, arith, sym, ◌∙◌}
 use Rattle.std.proofs.lemmas.List.{length-set, take_more_set}
 use Rattle.script_text.proofs.Digits.{bytes_more}
 use Rattle.script_text.proofs.words.bytes_of.Goals as goal

@@ -1,0 +1,9 @@
+// Laws of how texts fail to be scripts.
+ghost use Rattle.script_text.specs.Failures.{FailuresAreAlone, FailuresAreNoScripts};
+
+/// A text fails at one line at most, and there for one reason: the first line that fails, and the first of its reasons, are what
+/// the text is refused for. A text that fails is spelled by no script (own rule).
+pub fn failures_are_alone()
+    ensures alone { FailuresAreAlone }
+    ensures no_script { FailuresAreNoScripts }
+{}
