@@ -1,0 +1,15 @@
+pub mod Counts
+pub mod Parts
+pub mod SentSnoops
+pub mod Places
+pub mod SnoopSteps
+pub mod AnswerSteps
+pub mod BlockSteps
+pub mod ResponseSteps
+pub mod Sending
+pub mod DeviceEvents
+pub mod HostEvents
+pub mod Runs
+pub mod Below
+pub mod Laws
+pub mod WholeLaw
