@@ -1,0 +1,17 @@
+pub mod Has
+pub mod Operations
+pub mod Takes
+pub mod Acts
+pub mod DeviceSends
+pub mod Memory
+pub mod DeviceCommits
+pub mod HostFacts
+pub mod HostEvents
+pub mod DeviceEvents
+pub mod Kept
+pub mod EarlyCopies
+pub mod Lists
+pub mod Legal
+pub mod Whole
+pub mod Apart
+pub mod Laws
