@@ -1,0 +1,17 @@
+pub mod Messages
+pub mod Room
+pub mod Takes
+pub mod ConflictKinds
+pub mod Writes
+pub mod SharedGrants
+pub mod HostTakes
+pub mod OpenWaits
+pub mod LateStages
+pub mod Nothing
+pub mod Stuck
+pub mod StuckSnoops
+pub mod SomeLeft
+pub mod StuckDevice
+pub mod StuckOpen
+pub mod StuckOperations
+pub mod SnoopTakes
