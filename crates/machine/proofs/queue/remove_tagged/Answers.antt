@@ -1,0 +1,16 @@
+-- The messages after the place that was found is taken out.
+use Rattle.std.proofs.Common.{ap, sym, ◌∙◌}
+use Rattle.std.specs.Prelude.{position}
+use Rattle.cxl_message.specs.Messages.{has_tag}
+use Rattle.machine.proofs.Places.{tagged_taken_out, none_tagged_taken_out}
+use Rattle.machine.proofs.queue.remove_tagged.Goals as goal
+
+pub returns-in-Some-clause-items : goal.returns-in-Some-clause-items
+returns-in-Some-clause-items c =
+    let found = ap (position (has_tag c.args.tag)) (sym c.deref.ensures.value) ∙ sym c.in-Some.ensures in
+    c.remove-removed.ensures.items ∙ tagged_taken_out c.args.tag c.args.messages.now.items c.in-Some.place found
+
+pub returns-in_default-clause-items : goal.returns-in_default-clause-items
+returns-in_default-clause-items c =
+    let found = ap (position (has_tag c.args.tag)) (sym c.deref.ensures.value) ∙ sym c.in_default.ensures in
+    none_tagged_taken_out c.args.tag c.args.messages.now.items found
