@@ -1,0 +1,4 @@
+pub mod Scripts
+pub mod Reached
+pub mod Commits
+pub mod Laws
