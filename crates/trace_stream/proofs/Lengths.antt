@@ -1,0 +1,83 @@
+-- How many bytes the records have at most.
+use Rattle.std.proofs.Common.{◌≡◌, ◌≤◌, [], ◌++◌, length, Option, Some, None, ap, ◌∙◌, arith, length-append, append-nil, IfSome}
+use Rattle.std.proofs.lemmas.List.{length-map}
+use Rattle.cxl_message.specs.declared.identifiers.Bytes64.{Bytes64}
+use Rattle.cxl_message.specs.declared.messages.Message.{Message}
+use Rattle.cxl_message.specs.declared.events.Op.{Op}
+use Rattle.cxl_message.specs.declared.events.Act.{Act}
+use Rattle.cxl_message.specs.declared.events.Cause.{Cause}
+use Rattle.cxl_message.specs.declared.events.Sends.{Sends}
+use Rattle.cxl_message.specs.declared.events.Commit.{Commit}
+use Rattle.cxl_message.specs.declared.events.Event.{Event}
+use Rattle.cxl_codec.specs.Cells.{Cell, payload, free}
+use Rattle.cxl_codec.specs.Openings.{IsPayload}
+use Rattle.cxl_codec.specs.Messages.{message_cells, MessageInRange}
+use Rattle.cxl_codec.specs.Events.{op_cells, act_cells, cause_cells, out_cells, sends_cells, commit_cells, event_cells, OpInRange, CauseInRange, CommitInRange, EventFits}
+use Rattle.cxl_codec.specs.Traces.{event_bytes}
+use Rattle.cxl_message.specs.Events.{outs}
+use Rattle.std.specs.List.{AllByRecursion}
+
+-- a payload has 64
+pub payload_length : (bytes : Bytes64) → IsPayload bytes → length (payload bytes) ≡ 64
+payload_length bytes fits = length-map bytes.0 free ∙ fits.count
+
+message_length : (m : Message) → MessageInRange m → length (message_cells m) ≤ 73
+message_length (Message.Req op meta snp tag line) fits = omega arith
+message_length (Message.MemWr meta snp tag line bytes) fits = omega (arith, payload_length bytes fits.2)
+message_length (Message.BiConflict tag) fits = omega arith
+message_length (Message.BiRsp op bitag low) fits = omega arith
+message_length (Message.Ndr op tag) fits = omega arith
+message_length (Message.MemData tag bytes) fits = omega (arith, payload_length bytes fits.1)
+message_length (Message.BiSnp op bitag line span) fits = omega arith
+message_length (Message.Credit channel) fits = omega arith
+
+op_length : (op : Op) → OpInRange op → length (op_cells op) ≤ 69
+op_length (Op.Load line) fits = omega arith
+op_length (Op.Word line place value) fits = omega arith
+op_length (Op.Whole line bytes) fits = omega (arith, payload_length bytes fits.1)
+
+act_length : (act : Act) → length (act_cells act) ≤ 6
+act_length (Act.Conflict line) = omega arith
+act_length (Act.WriteBack line) = omega arith
+act_length (Act.Answer line) = omega arith
+act_length (Act.AnswerBlock line) = omega arith
+act_length (Act.HostReturn channel) = omega arith
+act_length (Act.Serve host tag) = omega arith
+act_length (Act.Clean host tag) = omega arith
+act_length (Act.Start host tag) = omega arith
+act_length (Act.Evict host tag) = omega arith
+act_length (Act.Snoop host line) = omega arith
+act_length (Act.Finish line) = omega arith
+act_length (Act.DeviceReturn host channel) = omega arith
+
+cause_length : (cause : Cause) → CauseInRange cause → length (cause_cells cause) ≤ 75
+cause_length (Cause.Op stream index op) fits = omega (arith, op_length op fits.1)
+cause_length (Cause.Take host message) fits = omega (arith, message_length message fits)
+cause_length (Cause.Act act) fits = omega (arith, act_length act)
+
+sends_length : (sends : Sends) → AllByRecursion (λ o. MessageInRange o.message) (outs sends) → length (sends_cells sends) ≤ 149
+sends_length Sends.Nothing fits = omega arith
+sends_length (Sends.One o) fits = omega (arith, message_length o.message fits.0, ap (length {A = Cell}) (append-nil (message_cells o.message)))
+sends_length (Sends.Two o p) fits =
+    omega (arith, message_length o.message fits.0, message_length p.message fits.1.0, ap (length {A = Cell}) (append-nil (message_cells p.message)), length-append (message_cells o.message) (out_cells p ++ []))
+
+commit_length : (commit : Option Commit) → IfSome commit CommitInRange → length (commit_cells commit) ≤ 139
+commit_length None fits = omega arith
+commit_length (Some c) fits =
+    omega (arith, op_length c.op fits.op, payload_length c.value fits.value, length-append (op_cells c.op) (payload c.value))
+
+-- an event has at most 364
+pub event_length : (e : Event) → EventFits e → length (event_cells e) ≤ 364
+event_length e fits =
+    omega (
+      arith,
+      cause_length e.cause fits.cause,
+      sends_length e.sends fits.sends,
+      commit_length e.commit fits.commit,
+      length-append (cause_cells e.cause ++ sends_cells e.sends) (commit_cells e.commit),
+      length-append (cause_cells e.cause) (sends_cells e.sends),
+    )
+
+-- and so many bytes
+pub event_bytes_length : (e : Event) → EventFits e → length (event_bytes e) ≤ 364
+event_bytes_length e fits = omega (arith, event_length e fits, length-map (event_cells e) (λ (c : Cell). c.byte))

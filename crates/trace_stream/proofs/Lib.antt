@@ -1,0 +1,15 @@
+pub mod Putting
+pub mod Lengths
+pub mod OpeningBytes
+pub mod Beginnings
+pub mod Heads
+pub mod Lifting
+pub mod KindsLifted
+pub mod Lowering
+pub mod Pauses
+pub mod OneReadings
+pub mod TraceItems
+pub mod OneLists
+pub mod WholeTraces
+pub mod Extending
+pub mod Standing

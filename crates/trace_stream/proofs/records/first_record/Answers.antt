@@ -1,0 +1,6 @@
+use Rattle.std.proofs.Common.{Err}
+use Rattle.trace_stream.proofs.KindsLifted.{lift_header}
+use Rattle.trace_stream.proofs.records.first_record.Goals as goal
+
+pub returns-in-Err : goal.returns-in-Err
+returns-in-Err c = λ e. lift_header c.args.bytes.now (Err c.in-Err.refusal) c.in-Err.ensures.refused

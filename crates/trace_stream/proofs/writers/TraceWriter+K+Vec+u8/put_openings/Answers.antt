@@ -1,0 +1,20 @@
+-- One opening after another is put.
+use Rattle.std.proofs.Common.{[], arith, ◌∙◌}
+use Rattle.trace_stream.proofs.OpeningBytes.{puts_opening, front_of_opening}
+use Rattle.trace_stream.proofs.writers.TraceWriter+K+Vec+u8.put_openings.Goals as goal
+
+pub loop-line-preserved : goal.loop-line-preserved
+loop-line-preserved g c =
+    let before = c.loop-line.invariant in
+    let put = c.in-Ok.ensures in
+    record {
+      put = puts_opening _ _ _ _ _ _ c.args.pairs.now c.loop-line.line-index (record { 0 = 0 }, record { 0 = [] }) (omega arith) before.put put.put;
+      faults = omega (arith, before.faults, put.faults);
+      counts = omega (arith, before.counts, put.counts);
+      same_sink = put.same_sink ∙ before.same_sink;
+      count = put.count ∙ before.count;
+    }
+
+pub returns-in-Err-clause-front : goal.returns-in-Err-clause-front
+returns-in-Err-clause-front g c =
+    front_of_opening _ _ _ _ _ c.args.pairs.now c.loop-line.line-index (record { 0 = 0 }, record { 0 = [] }) (omega arith) c.loop-line.invariant.put c.in-Err.ensures.front

@@ -1,0 +1,5 @@
+pub mod Writing
+pub mod Items
+pub mod Readings
+pub mod Runs
+pub mod Laws

@@ -1,0 +1,76 @@
+// What a trace is read as: its items, and why it isn't one.
+use cxl_codec::FieldName;
+use cxl_message::{Bytes64, Event, Line, Setup};
+use std::fmt;
+use thiserror::Error;
+
+/// What comes next in a trace (own rule).
+#[derive(Clone, Copy, PartialEq, Eq, Debug)]
+pub enum Item {
+    /// The header.
+    Header(Setup),
+    /// An opening record: what a line holds at first.
+    Opened { line: Line, bytes: Bytes64 },
+    /// An event.
+    Event(Event),
+    /// The end record, with the number of events.
+    End { count: u64 },
+    /// Nothing yet: more bytes are wanted, or the trace has ended.
+    More,
+}
+
+/// An item of which an event stands elsewhere (own rule).
+#[derive(Clone, Copy, PartialEq, Eq, Debug)]
+pub enum Found {
+    /// The header.
+    Header(Setup),
+    /// An opening record: what a line holds at first.
+    Opened { line: Line, bytes: Bytes64 },
+    /// An event, which was written where the caller said.
+    Event,
+    /// The end record, with the number of events.
+    End { count: u64 },
+    /// Nothing yet: more bytes are wanted, or the trace has ended.
+    More,
+}
+
+/// Why bytes aren't a trace (own rule).
+#[derive(Clone, Copy, PartialEq, Eq, Debug)]
+pub enum Reason {
+    /// The trace ends before its end record is whole.
+    Short,
+    /// No record has this kind byte here.
+    Kind,
+    /// No record has this byte of the field here.
+    Field(FieldName),
+    /// A line that doesn't exist, isn't greater than the one before or is all zeros is opened.
+    Opening,
+    /// The end record has another number of events.
+    Count,
+    /// A byte stands after the end record.
+    Trailing,
+}
+
+/// The first place where bytes aren't a trace, counted from 0, and why (own rule).
+#[derive(Clone, Copy, PartialEq, Eq, Debug, Error)]
+#[error("byte {at}: {reason}")]
+pub struct TraceFault {
+    pub at: u64,
+    pub reason: Reason,
+}
+
+impl fmt::Display for Reason {
+    fn fmt<W: fmt::Write>(&self, f: &mut fmt::Formatter<W>) -> fmt::Result {
+        match self {
+            Reason::Short => f.write_str("short"),
+            Reason::Kind => f.write_str("kind"),
+            Reason::Field(which) => {
+                f.write_str("field ")?;
+                f.write_str(which.name())
+            }
+            Reason::Opening => f.write_str("opening"),
+            Reason::Count => f.write_str("count"),
+            Reason::Trailing => f.write_str("trailing"),
+        }
+    }
+}

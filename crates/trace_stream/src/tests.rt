@@ -1,0 +1,3 @@
+mod reading;
+mod samples;
+mod writing;
