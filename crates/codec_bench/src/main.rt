@@ -2,7 +2,6 @@
 // asked for.
 #![tactic(auto)]
 
-mod samples;
 mod work;
 
 use std::rt::Env;

@@ -1,5 +1,5 @@
-// Rounds over one buffer of mixed event records, each group of eleven as in `samples`.
-use crate::samples::{
+// Rounds over one buffer of mixed event records, each group of eleven as in `bench_events`.
+use bench_events::{
     answered, asked, begun, committed, conflicted, granted, group, returned, snooped, started,
     stored, written,
 };

@@ -1,0 +1,135 @@
+// A trace is written to a sink that takes pieces, or its records are encoded alone.
+ghost use Rattle.std.specs.Prelude.{◌≡◌, ◌+◌, ◌*◌, ◌^◌, ◌<◌, ◌≤◌, OnOk};
+ghost use Rattle.trace_stream.specs.Writing.{reach};
+ghost use Rattle.trace_stream.specs.declared.writers.Progress.{Progress};
+
+use crate::work::{Size, Tally};
+use bench_events::{
+    answered, asked, begun, committed, conflicted, granted, returned, snooped, started, stored,
+    written,
+};
+use cxl_codec::{encode_end, encode_event, encode_header};
+use cxl_message::{Opening, Setup};
+use outside_io::{MemSink, Sink};
+use std::alloc::{AllocError, Global};
+use trace_stream::{TraceWriteRefusal, TraceWriter};
+
+/// How many bytes wait at most where records are encoded alone.
+const FULL: usize = 65000;
+
+/// The trace of so many groups of records.
+pub fn trace_of(alloc: Global, groups: u32) -> Result<Vec<u8>, AllocError> {
+    let mut trace = Vec::new(alloc);
+    let Some(setup) = setup() else {
+        return Ok(trace);
+    };
+    encode_header(&setup, &mut trace)?;
+    fill(groups, usize::MAX, &mut trace)?;
+    encode_end(11 * u64::from(groups), &mut trace)?;
+    Ok(trace)
+}
+
+/// Encodes the event records of a trace into one buffer, which is emptied where it is full.
+pub fn encode(
+    alloc: Global,
+    trace: &[u8],
+    groups: u32,
+    tally: &mut Tally,
+) -> Result<(), AllocError> {
+    let mut buffer = Vec::new(alloc);
+    fill(groups, FULL, &mut buffer)?;
+    tally.add_groups(groups);
+    tally.add_bytes(trace.len());
+    Ok(())
+}
+
+/// Writes the same trace to a sink in memory that takes a piece of the size at once.
+pub fn write(alloc: Global, trace: &[u8], size: Size, tally: &mut Tally) -> Result<(), AllocError> {
+    let piece = (size.piece as usize).max(1);
+    let mut sink = MemSink::new(alloc, trace.len(), piece, Vec::new(alloc))?;
+    let ended = write_trace(alloc, size.groups, &mut sink).is_ok();
+    tally.same = tally.same && ended && sink.bytes().len() == trace.len();
+    tally.add_groups(size.groups);
+    tally.add_bytes(trace.len());
+    Ok(())
+}
+
+/// The setup of the trace, if it is one.
+fn setup() -> Option<Setup> {
+    Setup::new(2, 4, 4, 4, 2, 2, &[0]).ok()
+}
+
+/// Appends so many groups of records; the buffer is emptied where it has as many bytes as the limit.
+fn fill(groups: u32, limit: usize, out: &mut Vec<u8>) -> Result<(), AllocError> {
+    let (begun, asked, started, snooped) = (begun(), asked(), started(), snooped());
+    let (conflicted, answered, granted) = (conflicted(), answered(), granted());
+    let (committed, stored, written) = (committed(), stored(), written());
+    let returned = returned();
+    for _ in 0..groups {
+        encode_event(&begun, out)?;
+        encode_event(&asked, out)?;
+        encode_event(&started, out)?;
+        encode_event(&snooped, out)?;
+        encode_event(&conflicted, out)?;
+        encode_event(&answered, out)?;
+        encode_event(&granted, out)?;
+        encode_event(&committed, out)?;
+        encode_event(&stored, out)?;
+        encode_event(&written, out)?;
+        encode_event(&returned, out)?;
+        if out.len() >= limit {
+            out.clear();
+        }
+    }
+    Ok(())
+}
+
+/// Writes the trace of so many groups of records to a sink.
+fn write_trace<K: Sink>(alloc: Global, groups: u32, sink: &mut K) -> Result<(), TraceWriteRefusal>
+    requires { K.highest_count sink.old < 1000 }
+{
+    let Some(setup) = setup() else {
+        return Err(TraceWriteRefusal::Memory);
+    };
+    let opening = Opening::new(alloc);
+    let Ok(mut writer) = TraceWriter::new(alloc, sink) else {
+        return Err(TraceWriteRefusal::Memory);
+    };
+    match writer.begin(&setup, &opening) {
+        Ok(()) => {}
+        Err(refusal) => return Err(refusal),
+    }
+    match put_groups(groups, &mut writer) {
+        Ok(()) => {}
+        Err(refusal) => return Err(refusal),
+    }
+    writer.end()
+}
+
+/// Puts so many groups of events.
+fn put_groups<K: Sink>(groups: u32, writer: &mut TraceWriter<K>) -> Result<(), TraceWriteRefusal>
+    requires begun { writer.old.progress ≡ Progress.Begun }
+    requires none { writer.old.count ≡ 0 }
+    requires counts { reach (K.highest_count writer.old.sink.now) writer.old.waiting.items < 2000 }
+    ensures begun { OnOk result (writer.new.progress ≡ Progress.Begun) }
+    ensures counts { OnOk result (reach (K.highest_count writer.new.sink.now) writer.new.waiting.items < 2 ^ 62) }
+{
+    let (begun, asked, started, snooped) = (begun(), asked(), started(), snooped());
+    let (conflicted, answered, granted) = (conflicted(), answered(), granted());
+    let (committed, stored, written) = (committed(), stored(), written());
+    let returned = returned();
+    for number in 0..groups {
+        writer.put(&begun)?;
+        writer.put(&asked)?;
+        writer.put(&started)?;
+        writer.put(&snooped)?;
+        writer.put(&conflicted)?;
+        writer.put(&answered)?;
+        writer.put(&granted)?;
+        writer.put(&committed)?;
+        writer.put(&stored)?;
+        writer.put(&written)?;
+        writer.put(&returned)?;
+    }
+    Ok(())
+}
