@@ -1,3 +1,10 @@
-pub mod FirstScripts
-pub mod Fronts
-pub mod IdleTraces
+pub mod Counts
+pub mod Held
+pub mod Loops
+pub mod Openings
+pub mod PlainTests
+pub mod RecordLengths
+pub mod Scans
+pub mod Turns
+pub mod WholeTraces
+pub mod Adding

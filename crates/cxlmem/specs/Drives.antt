@@ -1,45 +1,81 @@
 -- What `drive` reads and writes. Every rule here is an own rule.
-use Rattle.std.specs.Prelude.{◌≡◌, ℕ, ◌≤◌, List, [], ◌∷◌, length, map, codes, IsTrue, Option, String, string_bytes}
-use Rattle.std.specs.declared.alloc.Global.{Global}
+use Rattle.std.specs.Prelude.{Bool, IsTrue, List, Option, false, length, nat_le, not, reverse, ℕ, ◌&&◌, ◌==◌, ◌≡◌, ◌≤◌, ◌<◌}
+use Rattle.std.specs.List.{list_all}
 use Rattle.std.specs.Io.KnownBytes.{Appends}
+use Rattle.cxl_message.specs.declared.events.Op.{Op}
 use Rattle.cxl_message.specs.Script.{ScriptValue}
-use Rattle.script_text.specs.Script.{IsScript, is_first_script, operation_count}
-use Rattle.script_text.specs.Spelling.{script_bytes}
+use Rattle.coherence_model.specs.Driven.{driven_trace}
+use Rattle.coherent_runs.specs.Coherent.{IsCoherent}
 use Rattle.cxl_codec.specs.Traces.{trace_bytes}
-use Rattle.cxlmem.specs.Outcomes.{WritesFront}
-
--- the words are the single word `drive`
-abbrev pub IsDrive : List (String Global) → Type 0
-IsDrive words = map string_bytes words ≡ codes "drive" ∷ []
+use Rattle.driven_laws.specs.Commits.{CommitsEach}
+use Rattle.machine.specs.Built.{is_whole}
+use Rattle.script_text.specs.declared.refusals.ScriptReason.{ScriptReason}
+use Rattle.script_text.specs.Failures.{FailsAt}
+use Rattle.script_text.specs.Script.{IsScript}
+use Rattle.script_text.specs.Spelling.{script_bytes}
+use Rattle.cxlmem.specs.Outcomes.{WritesFront, WritesText}
+use Rattle.cxlmem.specs.Texts.{bad_script_text}
 
 -- the most bytes that a script has
 abbrev pub script_limit : ℕ
 script_limit = 67108864
 
--- the input is this script, of a form that is driven today: a first script without operations
-pub record IsDriven (input : List ℕ) (script : ScriptValue) : Type 0 where
+-- whether none of some operations stores a whole line
+abbrev pub has_no_whole : List Op → Bool
+has_no_whole ops = list_all (λ op. not (is_whole op)) ops
+
+-- whether a script is plain: one host, as many filter entries and ways as lines at least, no pick, and no store of a whole line
+abbrev pub is_plain_script : ScriptValue → Bool
+is_plain_script script =
+    (script.setup.hosts == 1) && nat_le script.setup.lines script.setup.entries && nat_le script.setup.lines script.setup.ways
+    && (length script.picks == 0) && list_all has_no_whole script.operations
+
+-- the input is the one spelling of this script, and within the limit
+pub record Spells (input : List ℕ) (script : ScriptValue) : Type 0 where
   pub sound : IsScript script
-  pub first : IsTrue (is_first_script script)
-  pub idle : operation_count script.operations ≡ 0
   pub spelled : input ≡ script_bytes script
   pub within : length input ≤ script_limit
 
--- the input is some script that is driven today
-abbrev pub IsDrivable : List ℕ → Type 0
-IsDrivable input = (script : ScriptValue) × IsDriven input script
+-- the input is this script, of a form that is driven today: a plain script
+pub record IsDriven (input : List ℕ) (script : ScriptValue) : Type 0 where
+  pub spells : Spells input script
+  pub plain : IsTrue (is_plain_script script)
 
--- the trace of a script without operations: its setup, no opening and no event
+-- the input is this script, which isn't plain
+pub record IsUndriven (input : List ℕ) (script : ScriptValue) : Type 0 where
+  pub spells : Spells input script
+  pub other : is_plain_script script ≡ false
+
+-- the input is some script that isn't driven today
+abbrev pub IsUnbuiltScript : List ℕ → Type 0
+IsUnbuiltScript input = (script : ScriptValue) × IsUndriven input script
+
+-- the trace of a script: its setup, its opening, and the events of its driven trace in their order
 abbrev pub driven_bytes : ScriptValue → List ℕ
-driven_bytes script = trace_bytes script.setup [] []
+driven_bytes script = trace_bytes script.setup script.opening (reverse (driven_trace script))
 
--- the input is a script that is driven, and its trace went to the sink, and nothing else
+-- the input is a script that is driven; its driven trace went to the sink, and nothing else; in it each operation of the script is committed once, each stream's in its order, and nothing else is; it is a run whose commits form a legal history, in which a writable copy is always the only copy, and an allowed next step stands wherever something is pending
 pub record Drives (input : List ℕ) (old new : Option (List ℕ)) : Type 0 where
   pub script : ScriptValue
   pub driven : IsDriven input script
   pub trace : Appends old new (driven_bytes script)
+  pub commits : CommitsEach script (driven_trace script)
+  pub coherent : IsCoherent script.setup script.opening (driven_trace script)
 
 -- the input is a script that is driven, and the first bytes of its trace went to the sink, and nothing else
 pub record DrivesFront (input : List ℕ) (old new : Option (List ℕ)) : Type 0 where
   pub script : ScriptValue
   pub driven : IsDriven input script
   pub front : WritesFront old new (driven_bytes script)
+
+-- the input has more bytes than a script may have
+abbrev pub IsTooLong : List ℕ → Type 0
+IsTooLong input = script_limit < length input
+
+-- the input is within the limit and no script, and the line that fails first and its reason went to the sink as a text
+pub record RefusesScript (input : List ℕ) (old new : Option (List ℕ)) (before now : ℕ) : Type 0 where
+  pub within : length input ≤ script_limit
+  pub line : ℕ
+  pub reason : ScriptReason
+  pub fails : FailsAt input line reason
+  pub text : WritesText old new before now (bad_script_text line reason)

@@ -1,4 +1,7 @@
 pub mod Statuses
+pub mod CommandLine
 pub mod Texts
 pub mod Outcomes
 pub mod Drives
+pub mod Driver
+pub mod Outputs

@@ -19,13 +19,13 @@ code_of Status.NotBuilt = 11
 -- a status that the commands answer today
 abbrev pub IsAnswer : Status → Type 0
 IsAnswer Status.Ok = Unit {0}
-IsAnswer Status.Usage = ⊥
+IsAnswer Status.Usage = Unit {0}
 IsAnswer Status.ReadFault = Unit {0}
 IsAnswer Status.WriteFault = Unit {0}
-IsAnswer Status.BadScript = ⊥
+IsAnswer Status.BadScript = Unit {0}
 IsAnswer Status.BadTrace = ⊥
 IsAnswer Status.NotARun = ⊥
 IsAnswer Status.Memory = Unit {0}
 IsAnswer Status.JournalFull = ⊥
-IsAnswer Status.TooLong = ⊥
+IsAnswer Status.TooLong = Unit {0}
 IsAnswer Status.NotBuilt = Unit {0}

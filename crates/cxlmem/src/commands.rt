@@ -1,20 +1,27 @@
 // The top call: the program's commands.
-ghost use Rattle.std.specs.Prelude.{◌≡◌, ◌^◌, ◌<◌, ◌↔◌, [], Some, IfSome, IsTrue, string_bytes};
+ghost use Rattle.std.specs.Prelude.{◌≡◌, ◌^◌, ◌<◌, ◌⊎◌, [], Some, IfSome};
 ghost use Rattle.std.specs.Io.KnownBytes.{Appends};
 ghost use Rattle.cxlmem.specs.Statuses.{IsAnswer};
-ghost use Rattle.cxlmem.specs.Texts.{read_fault_text, not_built_text};
+ghost use Rattle.cxlmem.specs.Texts.{not_built_text, read_fault_text, too_long_text, usage_text};
+ghost use Rattle.cxlmem.specs.CommandLine.{IsDrive, IsForm, IsUnbuilt};
 ghost use Rattle.cxlmem.specs.Outcomes.{WritesText};
-ghost use Rattle.cxlmem.specs.Drives.{IsDrive, IsDrivable, Drives, DrivesFront};
+ghost use Rattle.cxlmem.specs.Drives.{Drives, DrivesFront, IsTooLong, IsUnbuiltScript, RefusesScript};
 
 use crate::driving::drive;
-use crate::ends::{Status, not_built};
+use crate::ends::{Status, not_built, usage};
+use crate::forms::{is_drive, is_unbuilt};
 use outside_io::{Sink, Source};
 use std::alloc::Global;
 
 /// Carries out the command that the words name: the words after the program's name. It reads from the source and
 /// writes to the sink, texts of refusals included (own rule).
 ///
-/// Today `drive` is built, for scripts of one host and no operation; all else answers `NotBuilt`.
+/// `drive` is built, for plain scripts: one host with any number of streams, an opening, as many filter entries and ways as
+/// lines at least, no store of a whole line and no pick. All else that is a form of the command line answers `NotBuilt`.
+///
+/// The causes of `Usage`, `BadScript`, `TooLong` and `NotBuilt` and those of `Ok` exclude one another: an input that fails at
+/// a line is no script's spelling, and spells one script at most. So each of these comes exactly where its cause holds, but
+/// for a read fault, a write fault and want of memory.
 pub fn command<S: Source, K: Sink>(
     alloc: Global,
     words: &[String],
@@ -32,36 +39,28 @@ pub fn command<S: Source, K: Sink>(
     // Each other status has its cause.
     ensures read_fault { result ≡ Status.ReadFault → S.faults source.old < S.faults source.new }
     ensures write_fault { result ≡ Status.WriteFault → K.faults sink.old < K.faults sink.new }
-    ensures not_built { result ≡ Status.NotBuilt → IsDrive words.now → IfSome (S.left source.old) (λ input. ¬ IsDrivable input) }
-    ensures other_words { ¬ IsDrive words.now → result ≡ Status.NotBuilt }
+    ensures usage { result ≡ Status.Usage → ¬ IsForm words.now }
+    ensures other_words { ¬ IsForm words.now → result ≡ Status.Usage }
+    ensures unbuilt_words { IsUnbuilt words.now → result ≡ Status.NotBuilt }
+    ensures bad_script { result ≡ Status.BadScript → IfSome (S.left source.old) (λ input. RefusesScript input (K.gone sink.old) (K.gone sink.new) (K.faults sink.old) (K.faults sink.new)) }
+    ensures too_long { result ≡ Status.TooLong → IfSome (S.left source.old) IsTooLong }
+    ensures not_built { result ≡ Status.NotBuilt → IsUnbuilt words.now ⊎ IsDrive words.now × IfSome (S.left source.old) IsUnbuiltScript }
     ensures nothing_else { IsAnswer result }
 
     // What the source has left and the sink holds after a refusal.
     ensures unread { ¬ IsDrive words.now → S.left source.new ≡ S.left source.old }
     ensures read_fault_text { result ≡ Status.ReadFault → WritesText (K.gone sink.old) (K.gone sink.new) (K.faults sink.old) (K.faults sink.new) read_fault_text }
+    ensures usage_text { result ≡ Status.Usage → WritesText (K.gone sink.old) (K.gone sink.new) (K.faults sink.old) (K.faults sink.new) usage_text }
+    ensures too_long_text { result ≡ Status.TooLong → WritesText (K.gone sink.old) (K.gone sink.new) (K.faults sink.old) (K.faults sink.new) too_long_text }
     ensures not_built_text { result ≡ Status.NotBuilt → WritesText (K.gone sink.old) (K.gone sink.new) (K.faults sink.old) (K.faults sink.new) not_built_text }
     ensures cut_short { result ≡ Status.WriteFault → IfSome (S.left source.old) (λ input. DrivesFront input (K.gone sink.old) (K.gone sink.new)) }
-    ensures unwritten { result ≡ Status.Memory → Appends (K.gone sink.old) (K.gone sink.new) [] }
+    ensures unfinished { result ≡ Status.Memory → Appends (K.gone sink.old) (K.gone sink.new) [] ⊎ IfSome (S.left source.old) (λ input. DrivesFront input (K.gone sink.old) (K.gone sink.new)) }
 {
-    if !is_drive(words) {
+    if is_drive(words) {
+        return drive(alloc, source, sink);
+    }
+    if is_unbuilt(words) {
         return not_built(sink);
     }
-    drive(alloc, source, sink)
-}
-
-/// Whether the words are the single word `drive`.
-fn is_drive(words: &[String]) -> bool
-    ensures { IsTrue result ↔ IsDrive words.now }
-{
-    match words {
-        [word] => is_text(word, "drive"),
-        _ => false,
-    }
-}
-
-/// Whether a word is this text.
-fn is_text(word: &String, text: &str) -> bool
-    ensures { IsTrue result ↔ (string_bytes word.now ≡ text.now) }
-{
-    word.as_str() == text
+    usage(sink)
 }

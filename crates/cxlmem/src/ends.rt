@@ -1,9 +1,12 @@
 // How a command ends: its status, and the text that a refusal writes.
-ghost use Rattle.std.specs.Prelude.{◌≡◌, ◌+◌, ◌*◌, ◌^◌, ◌<◌, length};
-ghost use Rattle.cxlmem.specs.Texts.{read_fault_text, not_built_text};
+ghost use Rattle.std.specs.Prelude.{◌≡◌, ◌+◌, ◌*◌, ◌^◌, ◌<◌, ◌≤◌, length};
+ghost use Rattle.cxlmem.specs.Texts.{bad_script_text, not_built_text, read_fault_text, reason_word, too_long_text, usage_text};
 ghost use Rattle.cxlmem.specs.Outcomes.{WritesText};
 
+use arrayvec::ArrayString;
+use itoa::Buffer;
 use outside_io::{Sink, write_all};
+use script_text::ScriptReason;
 
 /// How a command ends. Each status has its cause in the contract of `command` (own rule).
 #[derive(Clone, Copy, PartialEq, Eq, Debug)]
@@ -73,6 +76,56 @@ pub fn not_built<K: Sink>(sink: &mut K) -> Status
 {
     refuse(sink, b"not built\n");
     Status::NotBuilt
+}
+
+/// Writes the text of words that are no form of the command line, as far as the sink takes it.
+pub fn usage<K: Sink>(sink: &mut K) -> Status
+    requires { K.highest_count sink.old < 2 ^ 62 }
+    ensures status { result ≡ Status.Usage }
+    ensures text { WritesText (K.gone sink.old) (K.gone sink.new) (K.faults sink.old) (K.faults sink.new) usage_text }
+{
+    refuse(sink, b"usage: cxlmem drive | check | view | load N | run\n");
+    Status::Usage
+}
+
+/// Writes the text of too many bytes, as far as the sink takes it.
+pub fn too_long<K: Sink>(sink: &mut K) -> Status
+    requires { K.highest_count sink.old < 2 ^ 62 }
+    ensures status { result ≡ Status.TooLong }
+    ensures text { WritesText (K.gone sink.old) (K.gone sink.new) (K.faults sink.old) (K.faults sink.new) too_long_text }
+{
+    refuse(sink, b"too long\n");
+    Status::TooLong
+}
+
+/// Writes the line and the reason for which an input is no script, as far as the sink takes it.
+pub fn bad_script<K: Sink>(sink: &mut K, line: u32, reason: ScriptReason) -> Status
+    requires { K.highest_count sink.old < 2 ^ 62 }
+    ensures status { result ≡ Status.BadScript }
+    ensures text { WritesText (K.gone sink.old) (K.gone sink.new) (K.faults sink.old) (K.faults sink.new) (bad_script_text line reason) }
+{
+    let mut text = ArrayString::<64>::new();
+    text.push_str("bad script: line ");
+    text.push_str(Buffer::new().format(line));
+    text.push_str(": ");
+    text.push_str(word_of(reason));
+    text.push_str("\n");
+    refuse(sink, text.as_bytes());
+    Status::BadScript
+}
+
+/// The word of a reason.
+fn word_of(reason: ScriptReason) -> &'static str
+    ensures word { result.now ≡ reason_word reason }
+    ensures short { length result.now ≤ 8 }
+{
+    match reason {
+        ScriptReason::Spelling => "spelling",
+        ScriptReason::Range => "range",
+        ScriptReason::Order => "order",
+        ScriptReason::Many => "many",
+        ScriptReason::Missing => "missing",
+    }
 }
 
 /// Writes the text of a refusal. A fault of the sink ends it and changes no status.

@@ -1,11 +1,17 @@
 // The program: words and bytes in, a status and bytes out.
 #![tactic(auto)]
 
+mod begun;
 mod commands;
+mod driver;
 mod driving;
 mod ends;
+mod forms;
+mod output;
+mod plain;
 #[cfg(test)]
 mod tests;
+mod traces;
 
 pub use commands::command;
 pub use ends::Status;

@@ -1,16 +1,12 @@
-// The commands over sources and sinks in memory: worked examples, and each read and write failing once.
+// The commands over sources and sinks in memory: worked examples, each read and write failing once, and each refusal.
+mod examples;
+
 use super::*;
+use examples::*;
 use outside_io::{MemSink, MemSource};
 use std::alloc::{AllocError, Global};
+use std::process::Abort;
 use std::test::Fail;
-
-const NOTHING: &[u8] = b"hosts 1\nlines 1\nfilter 1\nways 1\ntags 2\ncredits 2\nroom 100\n";
-
-const NOTHING_TRACE: &[u8] =
-    b"\x43\x58\x4c\x54\x01\x01\x00\x00\x00\x00\x00\x02\x02\x00\xff\x00\x00\x00\x00\x00\x00\x00\x00";
-
-const ONE_LOAD: &[u8] =
-    b"hosts 1\nlines 4\nfilter 4\nways 4\ntags 2\ncredits 2\nroom 100\nstream 0\nload 0\n";
 
 /// What a command answered, and what it wrote.
 #[derive(Drop)]
@@ -19,7 +15,16 @@ struct Outcome {
     written: Vec<u8>,
 }
 
-/// A command of these words over this input, one byte at a time, with these reads and writes failing.
+/// Words of a command line.
+fn words_of(alloc: Global, words: &[&str]) -> Result<Vec<String>, AllocError> {
+    let mut owned = Vec::new(alloc);
+    for word in words {
+        owned.push(String::from_str(alloc, word)?)?;
+    }
+    Ok(owned)
+}
+
+/// A command of these words over this input, in pieces of one byte, with these reads and writes failing.
 fn run(
     alloc: Global,
     words: &[&str],
@@ -27,16 +32,155 @@ fn run(
     failing_reads: &[u64],
     failing_writes: &[u64],
 ) -> Result<Outcome, AllocError> {
-    let mut owned = Vec::new(alloc);
-    for word in words {
-        owned.push(String::from_str(alloc, word)?)?;
-    }
+    let owned = words_of(alloc, words)?;
     let mut source = MemSource::new(
         Vec::from_slice(alloc, input)?,
         1,
         Vec::from_slice(alloc, failing_reads)?,
     );
-    let mut sink = MemSink::new(alloc, 1000, 1, Vec::from_slice(alloc, failing_writes)?)?;
+    let mut sink = MemSink::new(alloc, 2000, 1, Vec::from_slice(alloc, failing_writes)?)?;
+    let status = command(alloc, &owned, &mut source, &mut sink);
+    Ok(Outcome {
+        status,
+        written: Vec::from_slice(alloc, sink.bytes())?,
+    })
+}
+
+/// The bytes of a trace in parts.
+fn bytes_of(alloc: Global, parts: &[Part]) -> Result<Vec<u8>, AllocError> {
+    let mut bytes = Vec::new(alloc);
+    for part in parts {
+        match *part {
+            Part::Bytes(more) => bytes.extend_from_slice(more)?,
+            Part::Run { byte, count } => {
+                for _ in 0..count {
+                    bytes.push(byte)?;
+                }
+            }
+        }
+    }
+    Ok(bytes)
+}
+
+/// The script is driven, and its trace is these bytes.
+fn drives(rt: &impl Abort, alloc: Global, script: &[u8], trace: &[Part]) -> Result<(), AllocError> {
+    let done = run(alloc, &["drive"], script, &[], &[])?;
+    let wanted = bytes_of(alloc, trace)?;
+    assert_eq!(rt; done.status, Status::Ok);
+    assert!(rt; done.written.as_slice() == wanted.as_slice());
+    Ok(())
+}
+
+#[test]
+fn plain_scripts_are_driven(rt: HostRuntime) -> Result<(), Fail> {
+    drives(&rt, rt.alloc(), NOTHING, &NOTHING_TRACE)?;
+    drives(&rt, rt.alloc(), ONE_LOAD, &ONE_LOAD_TRACE)?;
+    drives(&rt, rt.alloc(), SILENT_UPGRADE, &SILENT_UPGRADE_TRACE)?;
+    drives(&rt, rt.alloc(), OPENING, &OPENING_TRACE)?;
+    drives(&rt, rt.alloc(), TWO_STREAMS, &TWO_STREAMS_TRACE)?;
+    Ok(())
+}
+
+/// The command writes this text, with this status.
+fn refuses(
+    rt: &impl Abort,
+    alloc: Global,
+    words: &[&str],
+    input: &str,
+    status: Status,
+    text: &str,
+) -> Result<(), AllocError> {
+    let refused = run(alloc, words, input.as_bytes(), &[], &[])?;
+    assert_eq!(rt; refused.status, status, "{input}");
+    assert!(rt; refused.written.as_slice() == text.as_bytes(), "{input}");
+    Ok(())
+}
+
+const USAGE: &str = "usage: cxlmem drive | check | view | load N | run\n";
+
+// Words that are no form of the command line.
+static OTHER_WORDS: [&[&str]; 8] = [
+    &[],
+    &["drive", "x"],
+    &["Drive"],
+    &["load"],
+    &["load", "05"],
+    &["load", "+5"],
+    &["load", ""],
+    &["load", "65537"],
+];
+
+// Words of forms that aren't built.
+static UNBUILT_WORDS: [&[&str]; 5] = [
+    &["check"],
+    &["view"],
+    &["run"],
+    &["load", "0"],
+    &["load", "65536"],
+];
+
+#[test]
+fn other_words_are_told_the_usage(rt: HostRuntime) -> Result<(), Fail> {
+    for words in &OTHER_WORDS {
+        refuses(&rt, rt.alloc(), words, "", Status::Usage, USAGE)?;
+    }
+    Ok(())
+}
+
+#[test]
+fn words_of_other_forms_are_not_built(rt: HostRuntime) -> Result<(), Fail> {
+    for words in &UNBUILT_WORDS {
+        refuses(&rt, rt.alloc(), words, "", Status::NotBuilt, "not built\n")?;
+    }
+    Ok(())
+}
+
+#[test]
+fn scripts_of_other_forms_are_not_built(rt: HostRuntime) -> Result<(), Fail> {
+    for input in [
+        "hosts 2\nlines 1\nfilter 1\nways 1\ntags 2\ncredits 2\nroom 1\n",
+        "hosts 1\nlines 2\nfilter 1\nways 2\ntags 2\ncredits 2\nroom 1\n",
+        "hosts 1\nlines 2\nfilter 2\nways 1\ntags 2\ncredits 2\nroom 1\n",
+        "hosts 1\nlines 1\nfilter 1\nways 1\ntags 2\ncredits 2\nroom 1\npick 0\n",
+        "hosts 1\nlines 1\nfilter 1\nways 1\ntags 2\ncredits 2\nroom 1\nstream 0\nwhole 0 11111111111111111111111111111111111111111111111111111111111111111111111111111111111111111111111111111111111111111111111111111111\n",
+    ] {
+        refuses(
+            &rt,
+            rt.alloc(),
+            &["drive"],
+            input,
+            Status::NotBuilt,
+            "not built\n",
+        )?;
+    }
+    Ok(())
+}
+
+#[test]
+fn other_inputs_are_refused_at_their_line(rt: HostRuntime) -> Result<(), Fail> {
+    for (input, text) in [
+        ("", "bad script: line 1: missing\n"),
+        ("hosts 1\r\n", "bad script: line 1: spelling\n"),
+        (
+            "hosts 1\nlines 1\nfilter 1\nways 1\ntags 65\n",
+            "bad script: line 5: range\n",
+        ),
+        (
+            "hosts 1\nlines 65536\nfilter 1\nways 1\ntags 2\ncredits 2\nroom 1\nstream 0\nload 65536\n",
+            "bad script: line 9: range\n",
+        ),
+    ] {
+        refuses(&rt, rt.alloc(), &["drive"], input, Status::BadScript, text)?;
+    }
+    Ok(())
+}
+
+/// What `drive` writes for so many line feeds.
+fn line_feeds(alloc: Global, count: usize) -> Result<Outcome, AllocError> {
+    let owned = words_of(alloc, &["drive"])?;
+    let input = vec![in alloc; b'\n'; count]?;
+    let mut source = MemSource::new(input, 65536, Vec::new(alloc));
+    let mut sink = MemSink::new(alloc, 100, 100, Vec::new(alloc))?;
     let status = command(alloc, &owned, &mut source, &mut sink);
     Ok(Outcome {
         status,
@@ -45,38 +189,22 @@ fn run(
 }
 
 #[test]
-fn a_script_without_operations_is_driven(rt: HostRuntime) -> Result<(), Fail> {
-    let done = run(rt.alloc(), &["drive"], NOTHING, &[], &[])?;
-    assert_eq!(rt; done.status, Status::Ok);
-    assert_eq!(rt; done.written.as_slice(), NOTHING_TRACE);
-    Ok(())
-}
-
-#[test]
-fn what_is_not_built_says_so(rt: HostRuntime) -> Result<(), Fail> {
-    for (words, input) in [
-        (["drive"].as_slice(), ONE_LOAD),
-        (["drive"].as_slice(), b"hosts 2\n".as_slice()),
-        (["drive"].as_slice(), b"".as_slice()),
-        (["drive", "x"].as_slice(), NOTHING),
-        (["check"].as_slice(), NOTHING),
-        ([].as_slice(), NOTHING),
-    ] {
-        let refused = run(rt.alloc(), words, input, &[], &[])?;
-        assert_eq!(rt; refused.status, Status::NotBuilt);
-        assert_eq!(rt; refused.written.as_slice(), b"not built\n".as_slice());
-    }
+fn a_byte_too_many_is_too_long(rt: HostRuntime) -> Result<(), Fail> {
+    let most = line_feeds(rt.alloc(), 67108864)?;
+    assert_eq!(rt; most.status, Status::BadScript);
+    let more = line_feeds(rt.alloc(), 67108865)?;
+    assert_eq!(rt; more.status, Status::TooLong);
+    assert!(rt; more.written.as_slice() == b"too long\n".as_slice());
     Ok(())
 }
 
 #[test]
 fn each_read_that_fails_is_told(rt: HostRuntime) -> Result<(), Fail> {
-    for k in 0..=NOTHING.len() as u64 {
-        let failed = run(rt.alloc(), &["drive"], NOTHING, &[k], &[])?;
+    for k in 0..=ONE_LOAD.len() as u64 {
+        let failed = run(rt.alloc(), &["drive"], ONE_LOAD, &[k], &[])?;
         assert_eq!(rt; failed.status, Status::ReadFault, "at read {k}");
-        assert_eq!(rt;
-            failed.written.as_slice(),
-            b"read fault\n".as_slice(),
+        assert!(rt;
+            failed.written.as_slice() == b"read fault\n".as_slice(),
             "at read {k}"
         );
     }
@@ -85,14 +213,11 @@ fn each_read_that_fails_is_told(rt: HostRuntime) -> Result<(), Fail> {
 
 #[test]
 fn each_write_that_fails_cuts_the_trace(rt: HostRuntime) -> Result<(), Fail> {
-    for k in 0..NOTHING_TRACE.len() {
-        let failed = run(rt.alloc(), &["drive"], NOTHING, &[], &[k as u64])?;
+    let trace = bytes_of(rt.alloc(), &ONE_LOAD_TRACE)?;
+    for k in 0..trace.len() {
+        let failed = run(rt.alloc(), &["drive"], ONE_LOAD, &[], &[k as u64])?;
         assert_eq!(rt; failed.status, Status::WriteFault, "at write {k}");
-        assert_eq!(rt;
-            failed.written.as_slice(),
-            &NOTHING_TRACE[..k],
-            "at write {k}"
-        );
+        assert!(rt; failed.written.as_slice() == &trace[..k], "at write {k}");
     }
     Ok(())
 }

@@ -1,27 +1,55 @@
--- What was parsed is the one script that the input is.
-use Rattle.std.proofs.Common.{[], subst, sym, ◌∙◌}
-use Rattle.std.specs.Io.KnownBytes.{Appends}
-use Rattle.std.proofs.lemmas.Bool.{eqb-true}
-use Rattle.cxl_message.specs.Setup.{Configuration}
-use Rattle.cxl_codec.specs.Traces.{trace_bytes}
+-- What was parsed is the one script that the input is, and its driven trace is written.
+use Rattle.std.proofs.Common.{[], inr, sym, ◌∙◌}
+use Rattle.coherent_runs.proofs.Runs.{runs_coherent}
+use Rattle.coherence_model.specs.Driven.{driven_trace, event_bound}
+use Rattle.driven_laws.proofs.Ending.{driven_is_committed}
+use Rattle.driven_laws.proofs.Reached.{driving_reaches, reached_is_run}
+use Rattle.cxlmem.proofs.PlainTests.{no_picks_of, plain_of}
+use Rattle.cxlmem.proofs.WholeTraces.{fault_is_not_ok, memory_is_not_ok}
 use Rattle.cxlmem.proofs.driving.drive_input.Goals as goal
 
-pub returns-then-is_idle-clause-driven : goal.returns-then-is_idle-clause-driven
-returns-then-is_idle-clause-driven g c done = record {
+pub write_trace-requires-clause-plain : goal.write_trace-requires-clause-plain
+write_trace-requires-clause-plain g c = plain_of c.in-Ok.script c.in-Ok.ensures.script (sym c.is_plain.ensures ∙ c.if-is_plain.true)
+
+pub write_trace-requires-clause-no_picks : goal.write_trace-requires-clause-no_picks
+write_trace-requires-clause-no_picks g c = no_picks_of c.in-Ok.script (sym c.is_plain.ensures ∙ c.if-is_plain.true)
+
+pub returns-then-is_plain-clause-driven : goal.returns-then-is_plain-clause-driven
+returns-then-is_plain-clause-driven g c done =
+    let script = c.in-Ok.script in
+    let passes = sym c.is_plain.ensures ∙ c.if-is_plain.true in
+    let plain = plain_of script c.in-Ok.ensures.script passes in
+    record {
+      script = script;
+      driven = record { spells = record { sound = c.in-Ok.ensures.script; spelled = c.in-Ok.ensures.spelled; within = c.requires.within }; plain = passes };
+      trace = c.write_trace.ensures.written done;
+      commits = driven_is_committed script plain.drivable;
+      coherent =
+          runs_coherent script.setup script.opening plain.drivable.limits (driven_trace script)
+          (reached_is_run script plain.drivable (driven_trace script) (driving_reaches script (event_bound script) script.picks [] tt));
+    }
+
+pub returns-then-is_plain-clause-cut_short : goal.returns-then-is_plain-clause-cut_short
+returns-then-is_plain-clause-cut_short g c fault = record {
   script = c.in-Ok.script;
   driven = record {
-    sound = c.in-Ok.ensures.script;
-    first = c.in-Ok.ensures.first;
-    idle = eqb-true _ 0 (sym c.is_idle.ensures ∙ c.if-is_idle.true);
-    spelled = c.in-Ok.ensures.spelled;
-    within = c.requires.within;
+    spells = record { sound = c.in-Ok.ensures.script; spelled = c.in-Ok.ensures.spelled; within = c.requires.within };
+    plain = sym c.is_plain.ensures ∙ c.if-is_plain.true;
   };
-  trace =
-      subst (λ (setup : Configuration). Appends (g.K.Sink.gone c.args.sink.now) (g.K.Sink.gone c.write_idle_trace.new.sink) (trace_bytes setup [] []))
-      c.setup.ensures.setup (c.write_idle_trace.ensures.written done);
+  front = c.write_trace.ensures.cut_short (fault_is_not_ok _ fault);
 }
 
-pub returns-in-Err-Bad-clause-not_built : goal.returns-in-Err-Bad-clause-not_built
-returns-in-Err-Bad-clause-not_built g c _ drivable =
+pub returns-then-is_plain-clause-unfinished : goal.returns-then-is_plain-clause-unfinished
+returns-then-is_plain-clause-unfinished g c none = inr (record {
+  script = c.in-Ok.script;
+  driven = record {
+    spells = record { sound = c.in-Ok.ensures.script; spelled = c.in-Ok.ensures.spelled; within = c.requires.within };
+    plain = sym c.is_plain.ensures ∙ c.if-is_plain.true;
+  };
+  front = c.write_trace.ensures.cut_short (memory_is_not_ok _ none);
+})
+
+pub returns-in-Err-Bad-clause-bad_script : goal.returns-in-Err-Bad-clause-bad_script
+returns-in-Err-Bad-clause-bad_script g c _ =
     let refused = rw c.in-Err-Bad.field-0-is at c.in-Err-Bad.ensures in
-    refused.bad drivable.0 drivable.1.sound drivable.1.first drivable.1.spelled
+    record { within = c.requires.within; line = c.in-Err-Bad.line; reason = c.in-Err-Bad.reason; fails = refused.fails; text = rw (sym c.in-Err-Bad.line-is, sym c.in-Err-Bad.reason-is) c.bad_script.ensures.text }
