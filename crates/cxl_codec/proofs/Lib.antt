@@ -10,3 +10,9 @@ pub mod FileReads
 pub mod Meanings
 pub mod OneAnswer
 pub mod TraceReads
+pub mod Scanning
+pub mod Follows
+pub mod ScanFields
+pub mod ScanReads
+pub mod ScanBehind
+pub mod ScanRoom

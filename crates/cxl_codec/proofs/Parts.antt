@@ -233,16 +233,16 @@ module _ (n : ℕ) where
   block_sound_at bytes each false e = block_found bytes each (ltb-false _ _ e)
 
   -- a block that is spelled is read again
-  block_again : (bs : List ℕ) → IsBlock n bs → (rest : List ℕ) → block_at n (bs ++ rest) ≡ Ok (bs, rest)
-  block_again bs fits rest =
-      let long : ltb (length (bs ++ rest)) n ≡ false = le-ltb _ _ (omega (arith, length-append bs rest, fits.0)) in
-      rw (long, take_at bs rest n fits.0, drop_at bs rest n fits.0) refl
+  pub block_again : (bs : List ℕ) → length bs ≡ n → (rest : List ℕ) → block_at n (bs ++ rest) ≡ Ok (bs, rest)
+  block_again bs count rest =
+      let long : ltb (length (bs ++ rest)) n ≡ false = le-ltb _ _ (omega (arith, length-append bs rest, count)) in
+      rw (long, take_at bs rest n count, drop_at bs rest n count) refl
 
   -- the reader of a block meets the grammar
   pub block_meets : Meets (IsBlock n) (λ bs. map free bs) (block_at n)
   block_meets = record {
     sound = λ bytes each. block_sound_at bytes each (ltb (length bytes) n) refl;
-    complete = λ bs fits. free_read (block_at n) bs bs (block_again bs fits);
+    complete = λ bs fits. free_read (block_at n) bs bs (block_again bs fits.0);
   }
 
 -- ---- numbers and payloads

@@ -12,3 +12,4 @@ pub mod Refusals
 pub mod Reading
 pub mod ReadingEvents
 pub mod ReadingFiles
+pub mod Scanning

@@ -18,6 +18,7 @@ mod openings;
 mod operations;
 mod reading;
 mod refusals;
+mod scans;
 mod writing;
 
 pub use ends::{decode_end, encode_end};
@@ -25,8 +26,9 @@ pub use events::{decode_event, decode_event_into, encode_event};
 pub use fields::FieldName;
 pub use headers::{decode_header, encode_header};
 pub use laws::{one_answer, one_spelling, one_trace, read_again};
-pub use openings::{decode_opening, encode_opening};
+pub use openings::{decode_opening, encode_opening, opening_cut_below};
 pub use refusals::DecodeRefusal;
+pub use scans::EventScan;
 
 #[cfg(test)]
 mod tests;

@@ -3,6 +3,7 @@ ghost use Rattle.std.specs.Prelude.{◌≡◌, ◌++◌, OnOk};
 mod damage;
 mod examples;
 mod places;
+mod scanning;
 
 use super::*;
 use cxl_message::Setup;

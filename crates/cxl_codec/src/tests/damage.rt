@@ -237,10 +237,9 @@ fn requests_and_writes(rt: HostRuntime) -> Result<(), Fail> {
 }
 
 #[test]
-fn answers_and_snoops(rt: HostRuntime) -> Result<(), Fail> {
+fn answers_data_and_credits(rt: HostRuntime) -> Result<(), Fail> {
     let alloc = rt.alloc();
     let tag = (FREE, b"\x01\x02".as_slice());
-    let line = (FREE, b"\x00\x00\x01\x02".as_slice());
     for kind in [
         b"\x21".as_slice(),
         b"\x22",
@@ -263,6 +262,17 @@ fn answers_and_snoops(rt: HostRuntime) -> Result<(), Fail> {
         try_taken(&rt, alloc, &[(KIND, kind), tag])?;
     }
     try_taken(&rt, alloc, &[(KIND, b"\x41"), tag, (FREE, &[9; 64])])?;
+    for channel in [b"\x01".as_slice(), b"\x06"] {
+        try_taken(&rt, alloc, &[(KIND, b"\x61"), (CHANNEL, channel)])?;
+    }
+    Ok(())
+}
+
+#[test]
+fn snoops(rt: HostRuntime) -> Result<(), Fail> {
+    let alloc = rt.alloc();
+    let tag = (FREE, b"\x01\x02".as_slice());
+    let line = (FREE, b"\x00\x00\x01\x02".as_slice());
     for kind in [b"\x51".as_slice(), b"\x52", b"\x53"] {
         try_taken(
             &rt,
@@ -281,9 +291,6 @@ fn answers_and_snoops(rt: HostRuntime) -> Result<(), Fail> {
             alloc,
             &[(KIND, kind), tag, line, (Place::BlockSpan, b"\x04")],
         )?;
-    }
-    for channel in [b"\x01".as_slice(), b"\x06"] {
-        try_taken(&rt, alloc, &[(KIND, b"\x61"), (CHANNEL, channel)])?;
     }
     Ok(())
 }
