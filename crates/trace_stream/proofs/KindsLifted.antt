@@ -13,6 +13,7 @@ use Rattle.cxl_codec.specs.EndRecord.{end_cells, EndFits}
 use Rattle.cxl_codec.specs.Grammar.{Answers}
 use Rattle.trace_stream.specs.declared.items.Item.{Item}
 use Rattle.trace_stream.specs.declared.items.Found.{Found}
+use Rattle.trace_stream.specs.declared.rooms.Room.{Room}
 use Rattle.trace_stream.specs.declared.items.TraceFault.{TraceFault}
 use Rattle.trace_stream.specs.declared.stages.Stage.{Stage}
 use Rattle.trace_stream.specs.Items.{item_cells, item_of, answer_of, IsFirst, IsLater, IsNext, IsOpen, ReadsAs, Says, begins_with}
@@ -97,9 +98,9 @@ pub lift_later : (bytes : List ℕ) (a : Result (Item × ℕ) DecodeRefusal) →
 lift_later bytes a other o = lift_answer IsLater item_cells IsNext item_cells (λ (i : Item). i) (λ v. refl) later_next bytes (back_later bytes other) a o
 
 -- the same of what was found
-pub lift_found_later : (bytes : List ℕ) (e : Event) (r : Result (Found × ℕ) DecodeRefusal) → begins_with bytes 0xf0 ≡ false → Answers IsLater item_cells bytes (answer_of e r) → Answers IsNext item_cells bytes (answer_of e r)
-lift_found_later bytes e (Ok found) other o = lift_later bytes (Ok (item_of e found.0, found.1)) other o
-lift_found_later bytes e (Err refusal) other o = lift_later bytes (Err refusal) other o
+pub lift_found_later : (bytes : List ℕ) (room : Room) (r : Result (Found × ℕ) DecodeRefusal) → begins_with bytes 0xf0 ≡ false → Answers IsLater item_cells bytes (answer_of room r) → Answers IsNext item_cells bytes (answer_of room r)
+lift_found_later bytes room (Ok found) other o = lift_later bytes (Ok (item_of room found.0, found.1)) other o
+lift_found_later bytes room (Err refusal) other o = lift_later bytes (Err refusal) other o
 
 -- what the records that may come say is what the bytes say, as long as the end wasn't read
 pub says_open : (stage : Stage) (place : ℕ) (bytes : List ℕ) (outcome : Result Item TraceFault) → ((count : ℕ) → stage ≡ Stage.Ended count → ⊥) → ReadsAs stage place bytes outcome → Says stage place bytes outcome

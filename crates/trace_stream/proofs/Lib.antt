@@ -13,3 +13,4 @@ pub mod OneLists
 pub mod WholeTraces
 pub mod Extending
 pub mod Standing
+pub mod Scanned

@@ -1,5 +1,5 @@
 -- What an answer says of the bytes that wait after it.
-use Rattle.std.proofs.Common.{◌≡◌, ℕ, ◌+◌, ◌<◌, ◌≤◌, List, [], ◌∷◌, ◌++◌, length, drop, Option, Some, None, IfNone, Result, Ok, Err, sym, ap, subst, ◌∙◌, add-zero, arith, length-append, length-drop}
+use Rattle.std.proofs.Common.{◌≡◌, ℕ, ◌+◌, ◌<◌, ◌≤◌, List, [], ◌∷◌, ◌++◌, length, drop, Option, Some, None, IfNone, Result, Ok, Err, refl, sym, ap, subst, ◌∙◌, add-zero, arith, length-append, length-drop}
 use Rattle.std.specs.Option.{option_map_or}
 use Rattle.std.proofs.lemmas.List.{length-map}
 use Rattle.cxl_message.specs.Setup.{Configuration}
@@ -13,7 +13,7 @@ use Rattle.trace_stream.specs.declared.items.Reason.{Reason}
 use Rattle.trace_stream.specs.declared.items.TraceFault.{TraceFault}
 use Rattle.trace_stream.specs.declared.stages.Stage.{Stage}
 use Rattle.trace_stream.specs.Items.{item_cells, item_length, record_fault, fault_at, outcome_of, Allows, IsFirst, IsNext, IsLater, Says}
-use Rattle.trace_stream.specs.Readings.{Reading, Repeats, Answered, IsDrained, IsGiven, IsPause, after_next}
+use Rattle.trace_stream.specs.Readings.{Reading, Repeats, Answered, IsDrained, IsGiven, IsPause, after_next, fed_count}
 use Rattle.trace_stream.proofs.Extending.{item_stands, record_within}
 use Rattle.trace_stream.proofs.Lengths.{event_length, payload_length}
 
@@ -109,6 +109,24 @@ fewer_wait reading (Ok (Item.Event e)) says given = item_taken reading.fault rea
 fewer_wait reading (Ok (Item.End count)) says given = item_taken reading.fault reading.stage reading.place reading.waiting (Item.End count) says (λ e. cc)
 fewer_wait reading (Ok Item.More) says given = absurd given
 fewer_wait reading (Err fault) says given = absurd given
+
+-- an item's bytes are still among those that were fed
+item_fed : (fault : Option TraceFault) (stage : Stage) (place : ℕ) (waiting : List ℕ) (item : Item) → Repeats fault (Says stage place waiting (Ok item)) (Ok item) → (item ≡ Item.More → ⊥)
+    → place + item_length item + length (drop (item_length item) waiting) ≡ place + length waiting
+item_fed None stage place waiting item says some =
+    let o = item_stands stage place waiting item says some in
+    let within : item_length item ≤ length waiting = record_within (Allows stage) item_cells waiting [] item (item_length item) o.begins in
+    omega (arith, length-drop (item_length item) waiting, within)
+item_fed (Some fault) stage place waiting item e some = absurd cc
+
+-- an answer feeds nothing
+pub fed_kept : (reading : Reading) (outcome : Result Item TraceFault) → Answered reading outcome → fed_count (after_next reading outcome) ≡ fed_count reading
+fed_kept reading (Ok (Item.Header setup)) says = item_fed reading.fault reading.stage reading.place reading.waiting (Item.Header setup) says (λ e. cc)
+fed_kept reading (Ok (Item.Opened line bytes)) says = item_fed reading.fault reading.stage reading.place reading.waiting (Item.Opened line bytes) says (λ e. cc)
+fed_kept reading (Ok (Item.Event e)) says = item_fed reading.fault reading.stage reading.place reading.waiting (Item.Event e) says (λ same. cc)
+fed_kept reading (Ok (Item.End count)) says = item_fed reading.fault reading.stage reading.place reading.waiting (Item.End count) says (λ e. cc)
+fed_kept reading (Ok Item.More) says = omega arith
+fed_kept reading (Err fault) says = refl
 
 -- after More or a fault nothing more is given
 pause_at : (fault : Option TraceFault) (stage : Stage) (place : ℕ) (waiting : List ℕ) → Repeats fault (Says stage place waiting (Ok Item.More)) (Ok Item.More) → IfNone fault (Says stage (place + 0) waiting (Ok Item.More))

@@ -1,11 +1,10 @@
 -- The items of a trace, and what bytes are read as. Every rule here is an own rule.
-use Rattle.std.specs.Prelude.{◌≡◌, ℕ, ◌+◌, ◌==◌, ◌&&◌, ◌<◌, ◌^◌, List, [], ◌∷◌, length, Bool, false, not, nat_le, nat_lt, Option, Some, None, Result, Ok, Err, if◌then◌else◌}
+use Rattle.std.specs.Prelude.{◌≡◌, ℕ, ◌+◌, ◌==◌, ◌&&◌, ◌<◌, ◌^◌, List, [], ◌∷◌, length, Bool, true, false, not, nat_le, nat_lt, Option, Some, None, Result, Ok, Err, if◌then◌else◌}
 use Rattle.std.specs.Option.{option_map_or}
 use Rattle.cxl_message.specs.Setup.{IsWithinLimits}
 use Rattle.cxl_message.specs.Codes.{bytes_eq}
 use Rattle.cxl_message.specs.Opening.{zero_bytes}
 use Rattle.cxl_message.specs.declared.identifiers.Bytes64.{Bytes64}
-use Rattle.cxl_message.specs.declared.events.Event.{Event}
 use Rattle.cxl_codec.specs.declared.refusals.DecodeRefusal.{DecodeRefusal}
 use Rattle.cxl_codec.specs.Cells.{Cell}
 use Rattle.cxl_codec.specs.Header.{header_cells}
@@ -15,6 +14,7 @@ use Rattle.cxl_codec.specs.EndRecord.{end_cells, EndFits}
 use Rattle.cxl_codec.specs.Grammar.{Answers}
 use Rattle.trace_stream.specs.declared.items.Item.{Item}
 use Rattle.trace_stream.specs.declared.items.Found.{Found}
+use Rattle.trace_stream.specs.declared.rooms.Room.{Room}
 use Rattle.trace_stream.specs.declared.items.Reason.{Reason}
 use Rattle.trace_stream.specs.declared.items.TraceFault.{TraceFault}
 use Rattle.trace_stream.specs.declared.stages.Stage.{Stage}
@@ -128,23 +128,23 @@ Says (Stage.Openings lines next) place bytes outcome = ReadsAs (Stage.Openings l
 Says (Stage.Events count) place bytes outcome = ReadsAs (Stage.Events count) place bytes outcome
 Says (Stage.Ended count) place bytes outcome = outcome ≡ trailing place bytes
 
--- the item that was found, where an event is the one that was written
-abbrev pub item_of : Event → Found → Item
-item_of e (Found.Header setup) = Item.Header setup
-item_of e (Found.Opened line bytes) = Item.Opened line bytes
-item_of e Found.Event = Item.Event e
-item_of e (Found.End count) = Item.End count
-item_of e Found.More = Item.More
+-- the item that was found, with what was written to the room
+abbrev pub item_of : Room → Found → Item
+item_of room Found.Header = Item.Header room.setup
+item_of room Found.Opened = Item.Opened room.line room.bytes
+item_of room Found.Event = Item.Event room.event
+item_of room (Found.End count) = Item.End count
+item_of room Found.More = Item.More
 
 -- the same of an answer with a length
-abbrev pub answer_of : Event → Result (Found × ℕ) DecodeRefusal → Result (Item × ℕ) DecodeRefusal
-answer_of e (Ok found) = Ok (item_of e found.0, found.1)
-answer_of e (Err refusal) = Err refusal
+abbrev pub answer_of : Room → Result (Found × ℕ) DecodeRefusal → Result (Item × ℕ) DecodeRefusal
+answer_of room (Ok found) = Ok (item_of room found.0, found.1)
+answer_of room (Err refusal) = Err refusal
 
 -- the same of an outcome
-abbrev pub outcome_with : Event → Result Found TraceFault → Result Item TraceFault
-outcome_with e (Ok found) = Ok (item_of e found)
-outcome_with e (Err fault) = Err fault
+abbrev pub outcome_with : Room → Result Found TraceFault → Result Item TraceFault
+outcome_with room (Ok found) = Ok (item_of room found)
+outcome_with room (Err fault) = Err fault
 
 -- what was found, without its length
 abbrev pub found_of : Result (Found × ℕ) TraceFault → Result Found TraceFault
@@ -153,8 +153,8 @@ found_of (Err fault) = Err fault
 
 -- something was found
 abbrev pub IsItem : Found → Type 0
-IsItem (Found.Header setup) = Unit {0}
-IsItem (Found.Opened line bytes) = Unit {0}
+IsItem Found.Header = Unit {0}
+IsItem Found.Opened = Unit {0}
 IsItem Found.Event = Unit {0}
 IsItem (Found.End count) = Unit {0}
 IsItem Found.More = ⊥
@@ -166,15 +166,29 @@ IsOpen (Stage.Openings lines next) = Unit {0}
 IsOpen (Stage.Events count) = Unit {0}
 IsOpen (Stage.Ended count) = ⊥
 
+-- whether an event may come next
+abbrev pub takes_events : Stage → Bool
+takes_events Stage.Start = false
+takes_events (Stage.Openings lines next) = true
+takes_events (Stage.Events count) = true
+takes_events (Stage.Ended count) = false
+
+-- whether an opening may come next
+abbrev pub takes_openings : Stage → Bool
+takes_openings Stage.Start = false
+takes_openings (Stage.Openings lines next) = true
+takes_openings (Stage.Events count) = false
+takes_openings (Stage.Ended count) = false
+
 -- whether the first of the bytes is this one
 abbrev pub begins_with : List ℕ → ℕ → Bool
 begins_with [] byte = false
 begins_with (first ∷ bytes) byte = first == byte
 
 -- a line that was opened is one of at most 65,536
-abbrev pub IsBelow : Found → Type 0
-IsBelow (Found.Header setup) = Unit {0}
-IsBelow (Found.Opened line bytes) = line.0 < 2 ^ 16
-IsBelow Found.Event = Unit {0}
-IsBelow (Found.End count) = Unit {0}
-IsBelow Found.More = Unit {0}
+abbrev pub IsBelow : Room → Found → Type 0
+IsBelow room Found.Header = Unit {0}
+IsBelow room Found.Opened = room.line.0 < 2 ^ 16
+IsBelow room Found.Event = Unit {0}
+IsBelow room (Found.End count) = Unit {0}
+IsBelow room Found.More = Unit {0}

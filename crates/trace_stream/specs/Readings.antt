@@ -1,5 +1,5 @@
 -- What a reader of traces has read and keeps, and what its calls do to it. Every rule here is an own rule.
-use Rattle.std.specs.Prelude.{◌≡◌, ℕ, ◌+◌, ◌-◌, List, length, drop, min, Option, Some, None, IfNone, Result, Ok, Err}
+use Rattle.std.specs.Prelude.{◌≡◌, ℕ, ◌+◌, ◌-◌, ◌<◌, List, ◌++◌, All, length, drop, min, Option, Some, None, IfNone, Result, Ok, Err}
 use Rattle.trace_stream.specs.declared.items.Item.{Item}
 use Rattle.trace_stream.specs.declared.items.Reason.{Reason}
 use Rattle.trace_stream.specs.declared.items.TraceFault.{TraceFault}
@@ -59,6 +59,10 @@ unless_fault (Some fault) end = Err fault
 -- what is answered at the end of the bytes
 abbrev pub finish_of : Reading → Result ℕ TraceFault
 finish_of reading = unless_fault reading.fault (end_of reading.stage (fed_count reading))
+
+-- as long as fewer bytes than this wait, whatever comes, more are wanted
+abbrev pub IsQuiet : Reading → ℕ → Type 0
+IsQuiet reading below = (more : List ℕ) → All (λ b. b < 256) more → length (reading.waiting ++ more) < below → Answered (record reading { waiting = reading.waiting ++ more }) (Ok Item.More)
 
 -- a fault was met, or the bytes that wait say that more are wanted
 abbrev pub IsDrained : Reading → Type 0

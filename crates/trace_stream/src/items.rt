@@ -19,14 +19,14 @@ pub enum Item {
     More,
 }
 
-/// An item of which an event stands elsewhere (own rule).
+/// An item of which all but a count of events stands in a `Room` (own rule).
 #[derive(Clone, Copy, PartialEq, Eq, Debug)]
 pub enum Found {
-    /// The header.
-    Header(Setup),
-    /// An opening record: what a line holds at first.
-    Opened { line: Line, bytes: Bytes64 },
-    /// An event, which was written where the caller said.
+    /// The header, whose setup was written to the room.
+    Header,
+    /// An opening record, whose line and bytes were written to the room.
+    Opened,
+    /// An event, which was written to the room.
     Event,
     /// The end record, with the number of events.
     End { count: u64 },

@@ -8,13 +8,16 @@ mod laws;
 mod readers;
 mod records;
 mod refusals;
+mod rooms;
 mod stages;
+mod waiting;
 mod writers;
 
 pub use items::{Found, Item, Reason, TraceFault};
 pub use laws::{one_reading, traces_are_read};
 pub use readers::TraceReader;
 pub use refusals::TraceWriteRefusal;
+pub use rooms::Room;
 pub use writers::TraceWriter;
 
 #[cfg(test)]

@@ -1,27 +1,18 @@
 // Reading a trace from bytes that come in any pieces.
-ghost use Rattle.std.specs.Prelude.{◌≡◌, ◌↔◌, ◌⊎◌, Ok, ℕ, List, IfErr, ◌+◌, ◌-◌, ◌^◌, ◌<◌, ◌≤◌, ◌++◌, [], None, IfOk, length, take, drop, vec_len, vec_capacity};
+ghost use Rattle.std.specs.Prelude.{◌≡◌, true, ◌↔◌, ◌⊎◌, Ok, ℕ, List, IfErr, ◌+◌, ◌-◌, ◌^◌, ◌<◌, ◌≤◌, ◌++◌, [], None, IfOk, length, take, drop, vec_len, vec_capacity};
 ghost use Rattle.trace_stream.specs.Items.{item_of, outcome_with};
 ghost use Rattle.trace_stream.specs.declared.items.Item.{Item};
-ghost use Rattle.trace_stream.specs.Readings.{Answered, IsDrained, IsGiven, IsPause, after_next, fed_count, finish_of, room, taken_count};
+ghost use Rattle.trace_stream.specs.Readings.{Answered, IsDrained, IsGiven, IsPause, IsQuiet, after_next, fed_count, finish_of, room as longest, taken_count};
 ghost use Rattle.trace_stream.specs.Runs.{HasFault, HasRead, IsTraceOf, items_after};
 
 use crate::items::{Found, Item, Reason, TraceFault};
 use crate::records::read_at;
-use crate::stages::{Stage, advanced};
-use cxl_message::{Act, Cause, Event, Line, Sends};
+use crate::rooms::Room;
+use crate::stages::{Stage, advanced, takes_events, takes_openings};
+use crate::waiting::Waiting;
+use cxl_codec::opening_cut_below;
 use std::alloc::{AllocError, Global};
 use std::marker::Model;
-
-/// How many bytes the longest record has.
-const ROOM: usize = 364;
-
-/// An event to be written over.
-const BLANK: Event = Event {
-    agent: 0,
-    cause: Cause::Act(Act::Finish(Line(0))),
-    sends: Sends::Nothing,
-    commit: None,
-};
 
 /// A reader of a trace that comes in any pieces. It keeps at most 364 bytes, in memory that it takes at once (own rule).
 ///
@@ -29,24 +20,25 @@ const BLANK: Event = Event {
 /// met.
 #[derive(Debug, Drop)]
 pub struct TraceReader {
-    bytes: Vec<u8>,
-    // The bytes before this one were read.
-    start: usize,
+    waiting: Waiting,
+    // The place of the first byte that waits.
     place: u64,
     stage: Stage,
     fault: Option<TraceFault>,
+    // As long as fewer bytes wait, more is to come.
+    quiet: usize,
 }
 
 impl Model for TraceReader {
-    ghost use Rattle.std.specs.Prelude.{◌+◌, ◌-◌, ◌^◌, ◌<◌, ◌≤◌, drop, vec_len, vec_capacity};
-    ghost use Rattle.trace_stream.specs.Readings.{Reading};
+    ghost use Rattle.std.specs.Prelude.{◌+◌, ◌^◌, ◌<◌, ◌≤◌, length};
+    ghost use Rattle.trace_stream.specs.Readings.{IsQuiet, Reading};
     ghost use Rattle.trace_stream.specs.Items.{event_count};
 
     ghost Value = { Reading };
 
-    ghost view = { λ r. record { place = r.place; waiting = drop r.start r.bytes.items; stage = r.stage; fault = r.fault } };
+    ghost view = { λ r. record { place = r.place; waiting = r.waiting; stage = r.stage; fault = r.fault } };
 
-    ghost invariant = { λ r. (r.start ≤ vec_len r.bytes) × (vec_len r.bytes ≤ 364) × (364 ≤ vec_capacity r.bytes) × (r.place + (vec_len r.bytes - r.start) < 2 ^ 63) × (event_count r.stage ≤ r.place) };
+    ghost invariant = { λ r. (length r.waiting ≤ 364) × (r.place + length r.waiting < 2 ^ 63) × (event_count r.stage ≤ r.place) × IsQuiet (record { place = r.place; waiting = r.waiting; stage = r.stage; fault = r.fault }) r.quiet };
 }
 
 impl TraceReader {
@@ -56,13 +48,13 @@ impl TraceReader {
         ensures new { IfOk result (λ reader. reader ≡ record { place = 0; waiting = []; stage = Stage.Start; fault = None }) }
         ensures nothing { IfOk result (λ reader. HasRead [] [] reader) }
     {
-        let bytes = Vec::with_capacity(alloc, ROOM)?;
+        let waiting = Waiting::new(alloc)?;
         Ok(TraceReader {
-            bytes,
-            start: 0,
+            waiting,
             place: 0,
             stage: Stage::Start,
             fault: None,
+            quiet: 0,
         })
     }
 
@@ -73,8 +65,8 @@ impl TraceReader {
         ensures count { result ≡ taken_count self.old piece.now }
         ensures after { self.new ≡ record self.old { waiting = self.old.waiting ++ take result piece.now } }
         ensures goes_on { (bytes : List ℕ) (items : List Item) → HasRead bytes items self.old → HasRead (bytes ++ take result piece.now) items self.new }
-        ensures none { (result ≡ 0) ↔ ((length piece.now ≡ 0) ⊎ (length self.old.waiting ≡ room)) }
-        ensures kept { length self.new.waiting ≤ room }
+        ensures none { (result ≡ 0) ↔ ((length piece.now ≡ 0) ⊎ (length self.old.waiting ≡ longest)) }
+        ensures kept { length self.new.waiting ≤ longest }
     {
         self.take(piece)
     }
@@ -83,22 +75,23 @@ impl TraceReader {
     pub fn fed(&self) -> u64
         ensures { result ≡ fed_count self.now }
     {
-        self.place + (self.bytes.len() - self.start) as u64
+        self.place + self.waiting.len() as u64
     }
 
-    /// The next item of the bytes that were fed; the event of an `Event` is written to `event`. `More` comes exactly
-    /// where the bytes that wait are a proper prefix of a record that may come there, the empty prefix among them, and
-    /// behind the end record exactly where no byte waits. A fault comes exactly where the grammar refuses the bytes,
-    /// and is answered again by every later call. Where the answer isn't `Event`, nothing is said of `event`.
-    pub fn next_into(&mut self, event: &mut Event) -> Result<Found, TraceFault>
-        ensures answer { Answered self.old (outcome_with event.new result) }
-        ensures after { self.new ≡ after_next self.old (outcome_with event.new result) }
-        ensures goes_on { (bytes : List ℕ) (items : List Item) → HasRead bytes items self.old → HasRead bytes (items_after items (outcome_with event.new result)) self.new }
-        ensures fewer { IsGiven (outcome_with event.new result) → length self.new.waiting < length self.old.waiting }
-        ensures room_left { outcome_with event.new result ≡ Ok Item.More → length self.new.waiting < room }
-        ensures drained { IsPause (outcome_with event.new result) → IsDrained self.new }
+    /// The next item of the bytes that were fed; what it has is written to `room`, all but the count of an `End`. `More`
+    /// comes exactly where the bytes that wait are a proper prefix of a record that may come there, the empty prefix
+    /// among them, and behind the end record exactly where no byte waits. A fault comes exactly where the grammar
+    /// refuses the bytes, and is answered again by every later call. Nothing is said of what else stands in `room`.
+    pub fn next_into(&mut self, room: &mut Room) -> Result<Found, TraceFault>
+        ensures answer { Answered self.old (outcome_with room.new result) }
+        ensures after { self.new ≡ after_next self.old (outcome_with room.new result) }
+        ensures goes_on { (bytes : List ℕ) (items : List Item) → HasRead bytes items self.old → HasRead bytes (items_after items (outcome_with room.new result)) self.new }
+        ensures fewer { IsGiven (outcome_with room.new result) → length self.new.waiting < length self.old.waiting }
+        ensures room_left { outcome_with room.new result ≡ Ok Item.More → length self.new.waiting < longest }
+        ensures drained { IsPause (outcome_with room.new result) → IsDrained self.new }
+        ensures fed { fed_count self.new ≡ fed_count self.old }
     {
-        self.step(event)
+        self.step(room)
     }
 
     /// The next item of the bytes that were fed, as by `next_into`.
@@ -107,12 +100,13 @@ impl TraceReader {
         ensures after { self.new ≡ after_next self.old result }
         ensures goes_on { (bytes : List ℕ) (items : List Item) → HasRead bytes items self.old → HasRead bytes (items_after items result) self.new }
         ensures fewer { IsGiven result → length self.new.waiting < length self.old.waiting }
-        ensures room_left { result ≡ Ok Item.More → length self.new.waiting < room }
+        ensures room_left { result ≡ Ok Item.More → length self.new.waiting < longest }
         ensures drained { IsPause result → IsDrained self.new }
+        ensures fed { fed_count self.new ≡ fed_count self.old }
     {
-        let mut event = BLANK;
-        match self.next_into(&mut event) {
-            Ok(found) => Ok(item_from(found, &event)),
+        let mut room = Room::new();
+        match self.next_into(&mut room) {
+            Ok(found) => Ok(item_from(found, &room)),
             Err(fault) => Err(fault),
         }
     }
@@ -132,7 +126,7 @@ impl TraceReader {
         match self.stage {
             Stage::Ended { count } => Ok(count),
             _ => Err(TraceFault {
-                at: self.place + (self.bytes.len() - self.start) as u64,
+                at: self.place + self.waiting.len() as u64,
                 reason: Reason::Short,
             }),
         }
@@ -143,34 +137,72 @@ impl TraceReader {
         requires { fed_count self.old + length piece.now < 2 ^ 63 }
         ensures count { result ≡ taken_count self.old piece.now }
         ensures after { self.new ≡ record self.old { waiting = self.old.waiting ++ take result piece.now } }
-        ensures none { (result ≡ 0) ↔ ((length piece.now ≡ 0) ⊎ (length self.old.waiting ≡ room)) }
-        ensures kept { length self.new.waiting ≤ room }
+        ensures none { (result ≡ 0) ↔ ((length piece.now ≡ 0) ⊎ (length self.old.waiting ≡ longest)) }
+        ensures kept { length self.new.waiting ≤ longest }
     {
-        let count = piece.len().min(ROOM - (self.bytes.len() - self.start));
-        if ROOM - self.bytes.len() < count {
-            forget(&mut self.bytes, self.start);
-            self.start = 0;
-        }
-        put(&mut self.bytes, &piece[..count]);
-        count
+        self.waiting.feed(piece)
     }
 
-    /// The next item; the event of an `Event` is written to `event`.
-    fn step(&mut self, event: &mut Event) -> Result<Found, TraceFault>
-        ensures answer { Answered self.old (outcome_with event.new result) }
-        ensures after { self.new ≡ after_next self.old (outcome_with event.new result) }
+    /// The next item; what it has is written to `room`, all but the count of an `End`.
+    #[inline(always)]
+    fn step(&mut self, room: &mut Room) -> Result<Found, TraceFault>
+        ensures answer { Answered self.old (outcome_with room.new result) }
+        ensures after { self.new ≡ after_next self.old (outcome_with room.new result) }
+    {
+        if self.waiting.len() < self.quiet {
+            return Ok(Found::More);
+        }
+        if self.waiting.may_be_cut() && self.is_cut() {
+            return Ok(Found::More);
+        }
+        self.tries(room)
+    }
+
+    /// Whether an event record that is cut short is found to wait. Where the answer is false, nothing is said.
+    #[inline(never)]
+    fn is_cut(&mut self) -> bool
+        ensures cut { result ≡ true → Answered self.old (Ok Item.More) }
+        ensures same { self.new ≡ self.old }
+    {
+        if self.fault.is_some() || !takes_events(self.stage) {
+            return false;
+        }
+        self.quiet = self.waiting.cut_below();
+        self.quiet != 0
+    }
+
+    /// Up to how many bytes an opening record that waits is known to be cut short: 0 where none waits.
+    fn quiet_below(&self) -> usize
+        ensures { IsQuiet self.now result }
+    {
+        if self.fault.is_some() || !takes_openings(self.stage) {
+            return 0;
+        }
+        opening_cut_below(self.waiting.bytes())
+    }
+
+    /// Tries the record at the front of the bytes that wait; what is read is written to `room`.
+    #[inline(never)]
+    fn tries(&mut self, room: &mut Room) -> Result<Found, TraceFault>
+        ensures answer { Answered self.old (outcome_with room.new result) }
+        ensures after { self.new ≡ after_next self.old (outcome_with room.new result) }
     {
         if let Some(fault) = self.fault {
             return Err(fault);
         }
-        match read_at(self.stage, self.place, &self.bytes[self.start..], event) {
+        match read_at(self.stage, self.place, self.waiting.bytes(), room) {
             Ok((found, length)) => {
-                self.start += length;
+                self.waiting.pass(length);
+                self.quiet = 0;
                 self.place += length as u64;
-                self.stage = advanced(self.stage, &found);
+                self.stage = advanced(self.stage, found, room);
+                if found == Found::More {
+                    self.quiet = self.quiet_below();
+                }
                 Ok(found)
             }
             Err(fault) => {
+                self.quiet = 0;
                 self.fault = Some(fault);
                 Err(fault)
             }
@@ -178,38 +210,18 @@ impl TraceReader {
     }
 }
 
-/// The item that was found, with the event that was written.
-fn item_from(found: Found, event: &Event) -> Item
-    ensures { result ≡ item_of event.now found }
+/// The item that was found, with what was written to the room.
+fn item_from(found: Found, room: &Room) -> Item
+    ensures { result ≡ item_of room.now found }
 {
     match found {
-        Found::Header(setup) => Item::Header(setup),
-        Found::Opened { line, bytes } => Item::Opened { line, bytes },
-        Found::Event => Item::Event(*event),
+        Found::Header => Item::Header(room.setup),
+        Found::Opened => Item::Opened {
+            line: room.line,
+            bytes: room.bytes,
+        },
+        Found::Event => Item::Event(room.event),
         Found::End { count } => Item::End { count },
         Found::More => Item::More,
     }
-}
-
-/// Forgets the first bytes.
-fn forget(bytes: &mut Vec<u8>, count: usize)
-    requires { count ≤ vec_len bytes.old }
-    ensures items { bytes.new.items ≡ drop count bytes.old.items }
-    ensures len { vec_len bytes.new + count ≡ vec_len bytes.old }
-    ensures capacity { vec_capacity bytes.new ≡ vec_capacity bytes.old }
-{
-    let left = bytes.len() - count;
-    bytes.copy_within(count.., 0);
-    bytes.truncate(left);
-}
-
-/// Appends bytes for which there is room.
-#[inline(always)]
-fn put(bytes: &mut Vec<u8>, more: &[u8])
-    requires { vec_len bytes.old + length more.now ≤ vec_capacity bytes.old }
-    ensures items { bytes.new.items ≡ bytes.old.items ++ more.now }
-    ensures len { vec_len bytes.new ≡ vec_len bytes.old + length more.now }
-    ensures capacity { vec_capacity bytes.old ≤ vec_capacity bytes.new }
-{
-    let _ = bytes.extend_from_slice(more);
 }

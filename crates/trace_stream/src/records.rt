@@ -1,63 +1,72 @@
 // The record at the front of some bytes, of the kinds that may come there.
 ghost use Rattle.std.specs.Prelude.{◌≡◌, true, false, None, ◌+◌, ◌^◌, ◌<◌, ◌≤◌, length, IfOk, OnErr};
-ghost use Rattle.cxl_message.specs.declared.events.Event.{Event};
 ghost use Rattle.cxl_codec.specs.Grammar.{Answers};
+ghost use Rattle.trace_stream.specs.declared.rooms.Room.{Room};
 ghost use Rattle.trace_stream.specs.Items.{Allows, IsBelow, IsFirst, IsItem, IsLater, IsNext, IsOpen, ReadsAs, Says, item_cells, item_of, item_length, answer_of, begins_with, found_of, record_fault, outcome_with};
 
 use crate::items::{Found, Reason, TraceFault};
+use crate::rooms::Room;
 use crate::stages::{Stage, refused_whole};
 use cxl_codec::{DecodeRefusal, decode_end, decode_event_into, decode_header, decode_opening};
-use cxl_message::Event;
 
 /// Reads a header.
-fn first_record(bytes: &[u8]) -> Result<(Found, usize), DecodeRefusal>
-    ensures { (e : Event) → Answers IsFirst item_cells bytes.now (answer_of e result) }
+#[inline(never)]
+fn first_record(bytes: &[u8], room: &mut Room) -> Result<(Found, usize), DecodeRefusal>
+    ensures { Answers IsFirst item_cells bytes.now (answer_of room.new result) }
 {
     match decode_header(bytes) {
-        Ok((setup, length)) => Ok((Found::Header(setup), length)),
+        Ok((setup, length)) => {
+            room.setup = setup;
+            Ok((Found::Header, length))
+        }
         Err(refusal) => Err(refusal),
     }
 }
 
 /// Reads an opening, an event or an end record.
 #[inline(always)]
-fn next_record(bytes: &[u8], event: &mut Event) -> Result<(Found, usize), DecodeRefusal>
-    ensures { Answers IsNext item_cells bytes.now (answer_of event.new result) }
+fn next_record(bytes: &[u8], room: &mut Room) -> Result<(Found, usize), DecodeRefusal>
+    ensures { Answers IsNext item_cells bytes.now (answer_of room.new result) }
 {
     if begins(bytes, 0xf0) {
-        opening_record(bytes)
+        opening_record(bytes, room)
     } else {
-        later_record(bytes, event)
+        later_record(bytes, room)
     }
 }
 
 /// Reads an opening record at bytes that begin as one.
-fn opening_record(bytes: &[u8]) -> Result<(Found, usize), DecodeRefusal>
+#[inline(never)]
+fn opening_record(bytes: &[u8], room: &mut Room) -> Result<(Found, usize), DecodeRefusal>
     requires { begins_with bytes.now 0xf0 ≡ true }
-    ensures { (e : Event) → Answers IsNext item_cells bytes.now (answer_of e result) }
+    ensures { Answers IsNext item_cells bytes.now (answer_of room.new result) }
 {
     match decode_opening(bytes) {
-        Ok((line, bytes, length)) => Ok((Found::Opened { line, bytes }, length)),
+        Ok((line, held, length)) => {
+            room.line = line;
+            room.bytes = held;
+            Ok((Found::Opened, length))
+        }
         Err(refusal) => Err(refusal),
     }
 }
 
 /// Reads an event or an end record.
 #[inline(always)]
-fn later_record(bytes: &[u8], event: &mut Event) -> Result<(Found, usize), DecodeRefusal>
-    ensures { Answers IsLater item_cells bytes.now (answer_of event.new result) }
+fn later_record(bytes: &[u8], room: &mut Room) -> Result<(Found, usize), DecodeRefusal>
+    ensures { Answers IsLater item_cells bytes.now (answer_of room.new result) }
 {
     if begins(bytes, 0xff) {
         end_record(bytes)
     } else {
-        event_record(bytes, event)
+        event_record(bytes, room)
     }
 }
 
 /// Reads an end record at bytes that begin as one.
 fn end_record(bytes: &[u8]) -> Result<(Found, usize), DecodeRefusal>
     requires { begins_with bytes.now 0xff ≡ true }
-    ensures { (e : Event) → Answers IsLater item_cells bytes.now (answer_of e result) }
+    ensures { (room : Room) → Answers IsLater item_cells bytes.now (answer_of room result) }
 {
     match decode_end(bytes) {
         Ok((count, length)) => Ok((Found::End { count }, length)),
@@ -67,11 +76,11 @@ fn end_record(bytes: &[u8]) -> Result<(Found, usize), DecodeRefusal>
 
 /// Reads an event record at bytes that don't begin as an end record.
 #[inline(always)]
-fn event_record(bytes: &[u8], event: &mut Event) -> Result<(Found, usize), DecodeRefusal>
+fn event_record(bytes: &[u8], room: &mut Room) -> Result<(Found, usize), DecodeRefusal>
     requires { begins_with bytes.now 0xff ≡ false }
-    ensures { Answers IsLater item_cells bytes.now (answer_of event.new result) }
+    ensures { Answers IsLater item_cells bytes.now (answer_of room.new result) }
 {
-    match decode_event_into(bytes, event) {
+    match decode_event_into(bytes, &mut room.event) {
         Ok(length) => Ok((Found::Event, length)),
         Err(refusal) => Err(refusal),
     }
@@ -90,14 +99,14 @@ fn begins(bytes: &[u8], byte: u8) -> bool
 
 /// Reads a record of the kinds that may come at a stage.
 #[inline(always)]
-fn record_at(stage: Stage, bytes: &[u8], event: &mut Event) -> Result<(Found, usize), DecodeRefusal>
+fn record_at(stage: Stage, bytes: &[u8], room: &mut Room) -> Result<(Found, usize), DecodeRefusal>
     requires { IsOpen stage }
-    ensures { Answers (Allows stage) item_cells bytes.now (answer_of event.new result) }
+    ensures { Answers (Allows stage) item_cells bytes.now (answer_of room.new result) }
 {
     match stage {
-        Stage::Start => first_record(bytes),
-        Stage::Openings { .. } => next_record(bytes, event),
-        Stage::Events { .. } => later_record(bytes, event),
+        Stage::Start => first_record(bytes, room),
+        Stage::Openings { .. } => next_record(bytes, room),
+        Stage::Events { .. } => later_record(bytes, room),
         Stage::Ended { .. } => unreachable!(),
     }
 }
@@ -108,18 +117,18 @@ fn outcome_at(
     stage: Stage,
     place: u64,
     bytes: &[u8],
-    event: &mut Event,
+    room: &mut Room,
 ) -> Result<(Found, usize), TraceFault>
     requires open { IsOpen stage }
     requires place { place + length bytes.now < 2 ^ 63 }
-    ensures says { ReadsAs stage place bytes.now (outcome_with event.new (found_of result)) }
-    ensures length { IfOk result (λ found. found.1 ≡ item_length (item_of event.new found.0)) }
+    ensures says { ReadsAs stage place bytes.now (outcome_with room.new (found_of result)) }
+    ensures length { IfOk result (λ found. found.1 ≡ item_length (item_of room.new found.0)) }
     ensures within { IfOk result (λ found. found.1 ≤ length bytes.now) }
     ensures some { IfOk result (λ found. IsItem found.0 → 0 < found.1) }
-    ensures below { IfOk result (λ found. IsBelow found.0) }
+    ensures below { IfOk result (λ found. IsBelow room.new found.0) }
 {
-    match record_at(stage, bytes, event) {
-        Ok((found, length)) => match refused_whole(stage, &found) {
+    match record_at(stage, bytes, room) {
+        Ok((found, length)) => match refused_whole(stage, found, room) {
             None => Ok((found, length)),
             Some(reason) => Err(TraceFault { at: place, reason }),
         },
@@ -141,14 +150,14 @@ pub fn read_at(
     stage: Stage,
     place: u64,
     bytes: &[u8],
-    event: &mut Event,
+    room: &mut Room,
 ) -> Result<(Found, usize), TraceFault>
     requires { place + length bytes.now < 2 ^ 63 }
-    ensures says { Says stage place bytes.now (outcome_with event.new (found_of result)) }
-    ensures length { IfOk result (λ found. found.1 ≡ item_length (item_of event.new found.0)) }
+    ensures says { Says stage place bytes.now (outcome_with room.new (found_of result)) }
+    ensures length { IfOk result (λ found. found.1 ≡ item_length (item_of room.new found.0)) }
     ensures within { IfOk result (λ found. found.1 ≤ length bytes.now) }
     ensures some { IfOk result (λ found. IsItem found.0 → 0 < found.1) }
-    ensures below { IfOk result (λ found. IsBelow found.0) }
+    ensures below { IfOk result (λ found. IsBelow room.new found.0) }
 {
     match stage {
         Stage::Ended { .. } => match bytes {
@@ -158,6 +167,6 @@ pub fn read_at(
                 reason: Reason::Trailing,
             }),
         },
-        _ => outcome_at(stage, place, bytes, event),
+        _ => outcome_at(stage, place, bytes, room),
     }
 }

@@ -1,10 +1,10 @@
 // Where a trace stands after the records that were read.
 ghost use Rattle.std.specs.Prelude.{◌≡◌, ◌+◌, ◌^◌, ◌<◌, ◌≤◌, IsTrue};
-ghost use Rattle.cxl_message.specs.declared.events.Event.{Event};
 ghost use Rattle.trace_stream.specs.declared.items.Item.{Item};
-ghost use Rattle.trace_stream.specs.Items.{item_of, advance, event_count, lines_of, may_open as may_open_at, record_fault, IsBelow};
+ghost use Rattle.trace_stream.specs.Items.{item_of, advance, event_count, lines_of, may_open as may_open_at, record_fault, IsBelow, takes_events as may_take_events, takes_openings as may_take_openings};
 
 use crate::items::{Found, Reason};
+use crate::rooms::Room;
 use cxl_message::{Bytes64, Line, Setup};
 
 /// What the records that were read say of the next ones (own rule).
@@ -30,6 +30,32 @@ pub fn events_read(stage: Stage) -> u64
         Stage::Openings { .. } => 0,
         Stage::Events { count } => count,
         Stage::Ended { count } => count,
+    }
+}
+
+/// Whether an event may come next.
+#[inline(always)]
+pub fn takes_events(stage: Stage) -> bool
+    ensures { result ≡ may_take_events stage }
+{
+    match stage {
+        Stage::Start => false,
+        Stage::Openings { .. } => true,
+        Stage::Events { .. } => true,
+        Stage::Ended { .. } => false,
+    }
+}
+
+/// Whether an opening may come next.
+#[inline(always)]
+pub fn takes_openings(stage: Stage) -> bool
+    ensures { result ≡ may_take_openings stage }
+{
+    match stage {
+        Stage::Start => false,
+        Stage::Openings { .. } => true,
+        Stage::Events { .. } => false,
+        Stage::Ended { .. } => false,
     }
 }
 
@@ -63,14 +89,14 @@ fn may_open(stage: Stage, line: Line, bytes: &Bytes64) -> bool
 
 /// Why a whole record is refused at its first byte, if it is.
 #[inline(always)]
-pub fn refused_whole(stage: Stage, found: &Found) -> Option<Reason>
-    ensures { (e : Event) → result ≡ record_fault stage (item_of e found.now) }
+pub fn refused_whole(stage: Stage, found: Found, room: &Room) -> Option<Reason>
+    ensures { result ≡ record_fault stage (item_of room.now found) }
 {
     match found {
-        Found::Header(_) => None,
-        Found::Opened { line, bytes } => refused_opening(stage, *line, bytes),
+        Found::Header => None,
+        Found::Opened => refused_opening(stage, room.line, &room.bytes),
         Found::Event => None,
-        Found::End { count } => refused_end(stage, *count),
+        Found::End { count } => refused_end(stage, count),
         Found::More => None,
     }
 }
@@ -101,18 +127,18 @@ fn refused_end(stage: Stage, count: u64) -> Option<Reason>
 
 /// The stage after an item.
 #[inline(always)]
-pub fn advanced(stage: Stage, found: &Found) -> Stage
-    requires room { event_count stage + 1 < 2 ^ 64 }
-    requires opening { IsBelow found.now }
-    ensures { (e : Event) → result ≡ advance stage (item_of e found.now) }
+pub fn advanced(stage: Stage, found: Found, room: &Room) -> Stage
+    requires count { event_count stage + 1 < 2 ^ 64 }
+    requires opening { IsBelow room.now found }
+    ensures { result ≡ advance stage (item_of room.now found) }
 {
     match found {
-        Found::Header(setup) => after_header(setup),
-        Found::Opened { line, .. } => after_opening(stage, *line),
+        Found::Header => after_header(&room.setup),
+        Found::Opened => after_opening(stage, room.line),
         Found::Event => Stage::Events {
             count: events_read(stage) + 1,
         },
-        Found::End { count } => Stage::Ended { count: *count },
+        Found::End { count } => Stage::Ended { count },
         Found::More => stage,
     }
 }

@@ -58,22 +58,60 @@ fn two_pieces_cut_anywhere(rt: HostRuntime) -> Result<(), Fail> {
     Ok(())
 }
 
+// Each event comes at its last byte, and is written to the room.
+#[test]
+fn one_room_byte_by_byte(rt: HostRuntime) -> Result<(), Fail> {
+    let bytes = one_load_bytes(rt.alloc())?;
+    let mut reader = TraceReader::new(rt.alloc())?;
+    let mut room = Room::new();
+    let mut events = Vec::new(rt.alloc());
+    for byte in &bytes {
+        assert!(rt; reader.fed() < 305);
+        assert_eq!(rt; reader.feed(&[*byte]), 1);
+        match reader.next_into(&mut room)? {
+            Found::Event => events.push((reader.fed(), room.event))?,
+            Found::Header => assert_eq!(rt; reader.fed(), 15),
+            Found::End { count } => assert_eq!(rt; (reader.fed(), count), (305, 6)),
+            found => assert_eq!(rt; found, Found::More),
+        }
+    }
+    assert_eq!(rt; room.setup, Setup::new(1, 4, 4, 4, 2, 2, &[0])?);
+    assert_eq!(rt; events.len(), 6);
+    for ((at, event), (end, expected)) in events
+        .iter()
+        .zip([39u64, 53, 61, 142, 150, 296].iter().zip(&one_load()))
+    {
+        assert_eq!(rt; at, end);
+        assert!(rt; event == expected);
+    }
+    Ok(())
+}
+
+// Bytes that are cut short come to the same in pieces of any size: equal items, and short at the cut.
+fn try_cut(rt: &impl Abort, alloc: Global, cut: &[u8]) -> Result<(), AllocError> {
+    let whole = read(alloc, cut, &[], 4096)?;
+    let short = TraceFault {
+        at: cut.len() as u64,
+        reason: Reason::Short,
+    };
+    assert_eq!(rt; whole.end, Err(short));
+    for chunk in [1usize, 7] {
+        let outcome = read(alloc, cut, &[], chunk)?;
+        assert!(rt;
+            outcome.items.as_slice() == whole.items.as_slice(),
+            "pieces of {chunk}"
+        );
+        assert_eq!(rt; outcome.end, Err(short), "pieces of {chunk}");
+    }
+    Ok(())
+}
+
 #[test]
 fn cut_short_and_too_long(rt: HostRuntime) -> Result<(), Fail> {
     let alloc = rt.alloc();
     let mut bytes = one_load_bytes(alloc)?;
-    try_fault(&rt, alloc, &[], 0, Reason::Short)?;
     for n in 0..bytes.len() {
-        let outcome = read(alloc, bytes.get(..n).unwrap_or(&[]), &[], 4096)?;
-        let short = TraceFault {
-            at: n as u64,
-            reason: Reason::Short,
-        };
-        assert_eq!(rt; outcome.end, Err(short));
-    }
-    for n in [296usize, 304] {
-        let cut = bytes.get(..n).unwrap_or(&[]);
-        try_fault(&rt, alloc, cut, n as u64, Reason::Short)?;
+        try_cut(&rt, alloc, bytes.get(..n).unwrap_or(&[]))?;
     }
     bytes.push(0xff)?;
     try_fault(&rt, alloc, &bytes, 305, Reason::Trailing)?;

@@ -1,0 +1,45 @@
+// Where a reader writes what it reads.
+use cxl_message::{Act, Bytes64, Cause, Event, Line, Sends, Setup};
+
+/// An event to be written over.
+const BLANK: Event = Event {
+    agent: 0,
+    cause: Cause::Act(Act::Finish(Line(0))),
+    sends: Sends::Nothing,
+    commit: None,
+};
+
+/// Where a reader writes what it reads: of each kind of item the last one, so that no large item passes by value (own
+/// rule).
+#[derive(Clone, Copy, PartialEq, Eq, Debug)]
+pub struct Room {
+    /// The setup of the last header.
+    pub setup: Setup,
+    /// The line of the last opening record.
+    pub line: Line,
+    /// What that line holds at first.
+    pub bytes: Bytes64,
+    /// The last event.
+    pub event: Event,
+}
+
+impl Room {
+    /// A room to be written over: a setup of the least numbers, line 0 with all bytes zero, and an event that sends
+    /// nothing.
+    pub fn new() -> Room {
+        Room {
+            setup: least_setup(),
+            line: Line(0),
+            bytes: Bytes64([0; 64]),
+            event: BLANK,
+        }
+    }
+}
+
+/// The setup of the least numbers.
+fn least_setup() -> Setup {
+    match Setup::new(1, 1, 1, 1, 2, 2, &[]) {
+        Ok(setup) => setup,
+        Err(_) => unreachable!(),
+    }
+}
