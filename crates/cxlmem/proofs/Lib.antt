@@ -1,10 +1,9 @@
+pub mod Adding
 pub mod Counts
-pub mod Held
+pub mod Fronts
 pub mod Loops
 pub mod Openings
 pub mod PlainTests
-pub mod RecordLengths
 pub mod Scans
+pub mod Statuses
 pub mod Turns
-pub mod WholeTraces
-pub mod Adding

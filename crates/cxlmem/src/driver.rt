@@ -29,15 +29,13 @@ pub fn turn(script: &Script, machine: &mut Machine, counts: &mut [u32; 64]) -> O
     if is_done(script, machine, counts) {
         return None;
     }
-    match choose(script, machine, counts) {
-        Some(event) => match machine.apply(&event) {
-            Ok(()) => {
-                count(counts, &event.cause);
-                Some(event)
-            }
-            Err(_) => None,
-        },
-        None => None,
+    let event = choose(script, machine, counts)?;
+    match machine.apply(&event) {
+        Ok(()) => {
+            count(counts, &event.cause);
+            Some(event)
+        }
+        Err(_) => None,
     }
 }
 
@@ -69,9 +67,8 @@ fn first_offer(script: &Script, machine: &Machine, counts: &[u32; 64]) -> Option
     ensures { (t : List AnEvent) → IsAt script.now machine.now counts.now t → result ≡ slice_get (flat_map (offers_of script.now t) (streams_of script.now)) 0 }
 {
     for stream in 0..script.setup().streams().len() {
-        match next_offer(script, machine, counts[stream], stream as u8) {
-            Some(event) => return Some(event),
-            None => {}
+        if let Some(event) = next_offer(script, machine, counts[stream], stream as u8) {
+            return Some(event);
         }
     }
     None
@@ -83,11 +80,6 @@ fn next_offer(script: &Script, machine: &Machine, begun: u32, stream: u8) -> Opt
     requires stream { stream < length script.now.setup.streams }
     ensures { (t : List AnEvent) → StandsFor machine.now script.now.setup script.now.opening t → (y : Stream) → IsNext script.now y stream begun t → option_to_list result ≡ offers_of script.now t y }
 {
-    match script.ops(stream).get(begun as usize) {
-        Some(op) => match machine.offer(stream, op) {
-            Ok(event) => Some(event),
-            Err(_) => None,
-        },
-        None => None,
-    }
+    let op = script.ops(stream).get(begun as usize)?;
+    machine.offer(stream, op).ok()
 }

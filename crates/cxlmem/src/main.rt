@@ -7,7 +7,6 @@ mod driver;
 mod driving;
 mod ends;
 mod forms;
-mod output;
 mod plain;
 #[cfg(test)]
 mod tests;

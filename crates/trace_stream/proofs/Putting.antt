@@ -1,5 +1,6 @@
 -- What puts one after the other do.
-use Rattle.std.proofs.Common.{◌≡◌, ℕ, List, [], ◌++◌, take, drop, Option, refl, sym, ap, ◌∙◌, append_assoc, append-nil, take-append-drop}
+use Rattle.std.proofs.Common.{◌≡◌, ℕ, List, [], ◌++◌, take, drop, Option, Result, Ok, Err, refl, sym, ap, ◌∙◌, append_assoc, append-nil, take-append-drop}
+use Rattle.std.specs.Result.{OnErr}
 use Rattle.std.proofs.KnownBytes.{Appends-nil, Appends-trans}
 use Rattle.std.specs.Io.KnownBytes.{Appends}
 use Rattle.trace_stream.specs.Writing.{Puts, PutsFront}
@@ -59,3 +60,8 @@ front_of_more a b w s t p = record {
   went = p.went;
   whole = sym (append_assoc w s t) ∙ ap (λ (l : List ℕ). l ++ t) p.whole ∙ append_assoc p.gone p.lost t;
 }
+
+-- what holds in any case holds of a refusal
+pub on_refusal : {T E P : Type 0} (r : Result T E) → P → OnErr r P
+on_refusal (Ok x) p = tt
+on_refusal (Err e) p = p

@@ -1,5 +1,5 @@
 // Writing a trace record by record.
-ghost use Rattle.std.specs.Prelude.{◌≡◌, ℕ, List, Option, ◌∷◌, ◌++◌, ◌+◌, ◌*◌, ◌^◌, ◌<◌, ◌≤◌, [], length, vec_len, IsTrue, IsErrOf, OnOk, OnErr, IfOk};
+ghost use Rattle.std.specs.Prelude.{◌≡◌, ℕ, List, Option, ◌∷◌, ◌++◌, ◌+◌, ◌*◌, ◌^◌, ◌<◌, ◌≤◌, [], length, vec_len, IsTrue, IsErrOf, IsOk, OnOk, OnErr, IfOk};
 ghost use Rattle.cxl_message.specs.Formed.{well_formed as is_well_formed};
 ghost use Rattle.cxl_message.specs.Opening.{opening_fits};
 ghost use Rattle.std.specs.List.{flat_map};
@@ -56,25 +56,27 @@ impl<K: Sink, B: Drop> Drop for TraceWriter<'_, K, B> {
 }
 
 impl<'a, K: Sink> TraceWriter<'a, K, Vec<u8>> {
-    /// A writer to this sink. It writes nothing yet.
+    /// A writer to this sink. It writes nothing yet and takes no memory, so it is never refused (own rule): `begin` is
+    /// the first call that asks for memory.
     pub fn new(alloc: Global, sink: &'a mut K) -> Result<TraceWriter<'a, K>, AllocError>
+        ensures never_refused { IsOk result }
         ensures same_sink { IfOk result (λ writer. writer.sink.ghost_name ≡ sink.entry.ghost_name) }
         ensures untouched { IfOk result (λ writer. writer.sink.now ≡ sink.old) }
         ensures empty { IfOk result (λ writer. writer.waiting.items ≡ []) }
         ensures new { IfOk result (λ writer. writer.progress ≡ Progress.New) }
         ensures count { IfOk result (λ writer. writer.count ≡ 0) }
     {
-        let waiting = Vec::with_capacity(alloc, FULL)?;
         Ok(TraceWriter {
             sink,
-            waiting,
+            waiting: Vec::new(alloc),
             count: 0,
             progress: Progress::New,
         })
     }
 
     /// Begins a trace: the header of a setup, and the openings, which name only lines of the setup. It comes first, and
-    /// once. A refusal leaves the first bytes of the trace in the sink, and ends the use of the writer.
+    /// once, and asks for the memory in which bytes wait. A refusal leaves the first bytes of the trace in the sink, none
+    /// where that memory is refused, and ends the use of the writer.
     pub fn begin(&mut self, setup: &Setup, opening: &Opening) -> Result<(), TraceWriteRefusal>
         requires new { self.old.progress ≡ Progress.New }
         requires empty { self.old.waiting.items ≡ [] }
@@ -93,6 +95,7 @@ impl<'a, K: Sink> TraceWriter<'a, K, Vec<u8>> {
         ensures highest { K.highest_count self.new.sink.now ≤ K.highest_count self.old.sink.now + begin_cost opening.now }
         ensures same_sink { self.new.sink.ghost_name ≡ self.old.sink.ghost_name }
     {
+        self.waiting.try_reserve(FULL)?;
         self.put_begin(setup, opening)
     }
 
@@ -165,17 +168,10 @@ impl<'a, K: Sink> TraceWriter<'a, K, Vec<u8>> {
         ensures highest { K.highest_count self.new.sink.now ≤ reach (K.highest_count self.old.sink.now) self.old.waiting.items + begin_cost opening.now }
         ensures same_sink { self.new.sink.ghost_name ≡ self.old.sink.ghost_name }
     {
-        match self.put_header(setup) {
-            Ok(()) => {}
-            Err(refusal) => return Err(refusal),
-        }
-        match self.put_openings(opening.pairs()) {
-            Ok(()) => {
-                self.progress = Progress::Begun;
-                Ok(())
-            }
-            Err(refusal) => Err(refusal),
-        }
+        self.put_header(setup)?;
+        self.put_openings(opening.pairs())?;
+        self.progress = Progress::Begun;
+        Ok(())
     }
 
     /// Puts the header of a setup.
@@ -190,10 +186,8 @@ impl<'a, K: Sink> TraceWriter<'a, K, Vec<u8>> {
         ensures same_sink { self.new.sink.ghost_name ≡ self.old.sink.ghost_name }
         ensures count { self.new.count ≡ self.old.count }
     {
-        match encode_header(setup, &mut self.waiting) {
-            Ok(()) => Ok(()),
-            Err(_) => Err(TraceWriteRefusal::Memory),
-        }
+        encode_header(setup, &mut self.waiting)?;
+        Ok(())
     }
 
     /// Puts the opening records of these lines, each below 65,536.
@@ -211,10 +205,7 @@ impl<'a, K: Sink> TraceWriter<'a, K, Vec<u8>> {
         ensures count { self.new.count ≡ self.old.count }
     {
         for (line, bytes) in pairs {
-            match self.put_opening(*line, bytes) {
-                Ok(()) => {}
-                Err(refusal) => return Err(refusal),
-            }
+            self.put_opening(*line, bytes)?;
         }
         Ok(())
     }
@@ -233,10 +224,8 @@ impl<'a, K: Sink> TraceWriter<'a, K, Vec<u8>> {
         ensures same_sink { self.new.sink.ghost_name ≡ self.old.sink.ghost_name }
         ensures count { self.new.count ≡ self.old.count }
     {
-        match encode_opening(line, bytes, &mut self.waiting) {
-            Ok(()) => self.drain(FULL),
-            Err(_) => Err(TraceWriteRefusal::Memory),
-        }
+        encode_opening(line, bytes, &mut self.waiting)?;
+        self.drain(FULL)
     }
 
     /// Puts the record of an event, which is well formed.
@@ -259,13 +248,9 @@ impl<'a, K: Sink> TraceWriter<'a, K, Vec<u8>> {
         ensures highest { K.highest_count self.new.sink.now ≤ reach (K.highest_count self.old.sink.now) self.old.waiting.items + event_cost }
         ensures same_sink { self.new.sink.ghost_name ≡ self.old.sink.ghost_name }
     {
-        match encode_event(event, &mut self.waiting) {
-            Ok(()) => {
-                self.count += 1;
-                self.drain(FULL)
-            }
-            Err(_) => Err(TraceWriteRefusal::Memory),
-        }
+        encode_event(event, &mut self.waiting)?;
+        self.count += 1;
+        self.drain(FULL)
     }
 
     /// Puts the end record, and writes all that waits.
@@ -285,13 +270,9 @@ impl<'a, K: Sink> TraceWriter<'a, K, Vec<u8>> {
         ensures highest { K.highest_count self.new.sink.now ≤ reach (K.highest_count self.old.sink.now) self.old.waiting.items + end_cost }
         ensures same_sink { self.new.sink.ghost_name ≡ self.old.sink.ghost_name }
     {
-        match encode_end(self.count, &mut self.waiting) {
-            Ok(()) => {
-                self.progress = Progress::Ended;
-                self.drain(0)
-            }
-            Err(_) => Err(TraceWriteRefusal::Memory),
-        }
+        encode_end(self.count, &mut self.waiting)?;
+        self.progress = Progress::Ended;
+        self.drain(0)
     }
 
     /// Writes what waits, if it is so much at least.

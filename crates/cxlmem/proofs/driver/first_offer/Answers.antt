@@ -16,7 +16,7 @@ pub loop-stream-preserved : goal.loop-stream-preserved
 loop-stream-preserved c t at =
     let size : length c.streams-stream-end.result.now ≡ length c.args.script.now.setup.streams = ap (λ (hs : List ℕ). length hs) (c.streams-stream-end.ensures.streams ∙ ap (λ s. s.streams) c.setup.ensures.setup) in
     first_more c.args.script.now c.args.counts.now t c.loop-stream.stream c.next_offer.result c.setup.ensures.script.streams (omega (arith, size, c.loop-stream-test.true))
-    at.counted (c.next_offer.ensures t at.stands) c.in-None.is (c.loop-stream.invariant t at)
+    at.counted (c.next_offer.ensures t at.stands) c.in_default.is (c.loop-stream.invariant t at)
 
 pub returns : goal.returns
 returns c t at =

@@ -5,7 +5,7 @@ use Rattle.coherence_model.specs.Driven.{driven_trace, event_bound}
 use Rattle.driven_laws.proofs.Ending.{driven_is_committed}
 use Rattle.driven_laws.proofs.Reached.{driving_reaches, reached_is_run}
 use Rattle.cxlmem.proofs.PlainTests.{no_picks_of, plain_of}
-use Rattle.cxlmem.proofs.WholeTraces.{fault_is_not_ok, memory_is_not_ok}
+use Rattle.cxlmem.proofs.Statuses.{fault_is_not_ok, memory_is_not_ok}
 use Rattle.cxlmem.proofs.driving.drive_input.Goals as goal
 
 pub write_trace-requires-clause-plain : goal.write_trace-requires-clause-plain

@@ -1,12 +1,13 @@
 -- One opening after another is put.
 use Rattle.std.proofs.Common.{[], arith, ◌∙◌}
+use Rattle.trace_stream.proofs.Putting.{on_refusal}
 use Rattle.trace_stream.proofs.OpeningBytes.{puts_opening, front_of_opening}
 use Rattle.trace_stream.proofs.writers.TraceWriter+K+Vec+u8.put_openings.Goals as goal
 
 pub loop-line-preserved : goal.loop-line-preserved
 loop-line-preserved g c =
     let before = c.loop-line.invariant in
-    let put = c.in-Ok.ensures in
+    let put = c.in_ok-put_opening.ensures in
     record {
       put = puts_opening _ _ _ _ _ _ c.args.pairs.now c.loop-line.line-index (record { 0 = 0 }, record { 0 = [] }) (omega arith) before.put put.put;
       faults = omega (arith, before.faults, put.faults);
@@ -15,6 +16,7 @@ loop-line-preserved g c =
       count = put.count ∙ before.count;
     }
 
-pub returns-in-Err-clause-front : goal.returns-in-Err-clause-front
-returns-in-Err-clause-front g c =
-    front_of_opening _ _ _ _ _ c.args.pairs.now c.loop-line.line-index (record { 0 = 0 }, record { 0 = [] }) (omega arith) c.loop-line.invariant.put c.in-Err.ensures.front
+pub returns-in_err-put_opening-clause-front : goal.returns-in_err-put_opening-clause-front
+returns-in_err-put_opening-clause-front g c =
+    on_refusal c.from_residual.result
+    (front_of_opening _ _ _ _ _ c.args.pairs.now c.loop-line.line-index (record { 0 = 0 }, record { 0 = [] }) (omega arith) c.loop-line.invariant.put c.in_err-put_opening.ensures.front)
