@@ -1,17 +1,11 @@
 -- An operation more of the last stream.
-use Rattle.std.proofs.Common.{◌≡◌, ℕ, zero, suc, ◌+◌, ◌<◌, ◌≤◌, ◌&&◌, Bool, true, false, Some, List, [], ◌∷◌, ◌++◌, length, get_or, set, map, refl, sym, ap, ◌∙◌, arith}
-use Rattle.std.specs.Prelude.{slice_get}
-use Rattle.std.specs.List.{list_all}
+use Rattle.std.proofs.Common.{◌≡◌, ℕ, zero, suc, ◌+◌, ◌<◌, List, [], ◌∷◌, ◌++◌, length, get_or, set, map, sym, ap, ◌∙◌, arith}
 use Rattle.std.specs.Global.{Vec}
 use Rattle.std.proofs.lemmas.List.{length_push, length-map, map-set, get_or-map}
 use Rattle.std.proofs.lemmas.List.Sums.{sum_by-cons}
 use Rattle.cxl_message.specs.declared.events.Op.{Op}
 use Rattle.script_text.specs.Refusals.{with_op}
 use Rattle.script_text.specs.Script.{operation_count}
-
-and-true : (b : Bool) → (b && true) ≡ b
-and-true true = refl
-and-true false = refl
 
 -- the streams' operations with the last stream's replaced
 replaced : (streams : List (List Op)) (ops : List Op) (op : Op) (n : ℕ) → suc n ≡ length streams → ops ≡ get_or streams n [] ++ op ∷ [] → set streams n ops ≡ with_op streams op
@@ -34,9 +28,3 @@ pub count-with_op : (streams : List (List Op)) (op : Op) → 0 < length streams 
 count-with_op [] op some = absurd (omega arith)
 count-with_op (first ∷ []) op some = omega (arith, sum_by-cons length first [], sum_by-cons length (first ++ op ∷ []) [], length_push first op)
 count-with_op (first ∷ next ∷ more) op some = omega (arith, sum_by-cons length first (next ∷ more), sum_by-cons length first (with_op (next ∷ more) op), count-with_op (next ∷ more) op (omega arith))
-
--- what holds of each stream, where there is one at most
-pub only_stream : (p : List Op → Bool) (streams : List (List Op)) (ops : List Op) → length streams ≤ 1 → slice_get streams 0 ≡ Some ops → list_all p streams ≡ p ops
-only_stream p [] ops few e = absurd cc
-only_stream p (first ∷ []) ops few e = let same : first ≡ ops = cc in and-true (p first) ∙ ap p same
-only_stream p (first ∷ next ∷ more) ops few e = absurd (omega arith)

@@ -1,5 +1,5 @@
--- Which values are scripts, and which of them are first scripts. Every rule here is an own rule.
-use Rattle.std.specs.Prelude.{ℕ, Bool, true, false, List, ◌≡◌, ◌<◌, ◌≤◌, ◌^◌, ◌&&◌, ◌==◌, not, nat_lt, nat_le, IsTrue, length}
+-- Which values are scripts. Every rule here is an own rule.
+use Rattle.std.specs.Prelude.{ℕ, Bool, List, ◌≡◌, ◌<◌, ◌≤◌, ◌^◌, ◌&&◌, ◌==◌, nat_lt, nat_le, IsTrue, length}
 use Rattle.std.specs.List.{list_all, sum_by}
 use Rattle.cxl_message.specs.declared.identifiers.Bytes64.{Bytes64}
 use Rattle.cxl_message.specs.declared.events.Op.{Op}
@@ -33,18 +33,6 @@ pub record IsScript (s : ScriptValue) : Type 0 where
   pub operations : IsTrue (list_all (λ ops. list_all (op_fits s.setup.lines) ops) s.operations)
   pub operation_count : operation_count s.operations ≤ 65536
   pub picks : IsTrue (list_all (λ pick. nat_le pick 65535) s.picks)
-
--- whether an operation stores a whole line
-abbrev pub is_whole : Op → Bool
-is_whole (Op.Load _) = false
-is_whole (Op.Word _ _ _) = false
-is_whole (Op.Whole _ _) = true
-
--- whether a script is a first script: one host, at most one stream, room for every line, no opening, no whole line, no pick
-abbrev pub is_first_script : ScriptValue → Bool
-is_first_script s =
-    (s.setup.hosts == 1) && nat_le (length s.setup.streams) 1 && nat_le s.setup.lines s.setup.entries && nat_le s.setup.lines s.setup.ways
-    && (length s.opening == 0) && (length s.picks == 0) && list_all (λ ops. list_all (λ op. not (is_whole op)) ops) s.operations
 
 -- the numbers of a line have a spelling: up to ten decimal digits, a value of 64 bits, 64 bytes
 abbrev pub IsSpelled : ScriptLine → Type 0

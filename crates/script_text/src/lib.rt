@@ -12,7 +12,7 @@ mod scripts;
 mod words;
 
 pub use laws::failures_are_alone;
-pub use parsing::{is_first, parse_script};
+pub use parsing::parse_script;
 pub use printing::print_script;
 pub use refusals::{ScriptReason, ScriptRefusal};
 pub use scripts::Script;

@@ -14,14 +14,14 @@ const ONE_LOAD: &str =
 const SILENT_UPGRADE: &str =
     "hosts 1\nlines 4\nfilter 4\nways 4\ntags 2\ncredits 2\nroom 100\nstream 0\nload 0\nword 0 0 00000000000000ff\n";
 
-fn first_script(rt: &impl Abort, alloc: Global, text: &str) -> Result<Script, ScriptRefusal> {
+fn short_script(rt: &impl Abort, alloc: Global, text: &str) -> Result<Script, ScriptRefusal> {
     assert!(rt; text.len() < 1000);
     parse_script(alloc, text.as_bytes())
 }
 
 #[test]
 fn nothing(rt: HostRuntime) -> Result<(), Fail> {
-    let script = first_script(&rt, rt.alloc(), NOTHING)?;
+    let script = short_script(&rt, rt.alloc(), NOTHING)?;
     let setup = script.setup();
     assert_eq!(rt; setup.hosts(), 1);
     assert_eq!(rt; setup.lines(), 1);
@@ -38,7 +38,7 @@ fn nothing(rt: HostRuntime) -> Result<(), Fail> {
 
 #[test]
 fn one_load(rt: HostRuntime) -> Result<(), Fail> {
-    let script = first_script(&rt, rt.alloc(), ONE_LOAD)?;
+    let script = short_script(&rt, rt.alloc(), ONE_LOAD)?;
     assert_eq!(rt; script.setup().streams(), [0].as_slice());
     assert!(rt; script.setup().streams().len() == 1);
     assert_eq!(rt; script.ops(0), [Op::Load { line: Line(0) }].as_slice());
@@ -47,7 +47,7 @@ fn one_load(rt: HostRuntime) -> Result<(), Fail> {
 
 #[test]
 fn silent_upgrade(rt: HostRuntime) -> Result<(), Fail> {
-    let script = first_script(&rt, rt.alloc(), SILENT_UPGRADE)?;
+    let script = short_script(&rt, rt.alloc(), SILENT_UPGRADE)?;
     assert!(rt; script.setup().streams().len() == 1);
     let load = Op::Load { line: Line(0) };
     let word = Op::Word {
@@ -139,6 +139,5 @@ fn every_form(rt: HostRuntime) -> Result<(), Fail> {
     assert_eq!(rt; script.opening().bytes_at(Line(7)), Bytes64([0xab; 64]));
     assert_eq!(rt; script.opening().pairs().len(), 2);
     assert_eq!(rt; script.picks(), [0, 65535].as_slice());
-    assert!(rt; !is_first(&script));
     Ok(())
 }

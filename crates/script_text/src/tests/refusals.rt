@@ -323,7 +323,6 @@ fn printed_as_it_was_read(rt: HostRuntime) -> Result<(), Fail> {
     let text = damaged(rt.alloc(), LINES.len(), "")?;
     assert!(rt; text.len() < 10000);
     let script = parse_script(rt.alloc(), text.as_bytes())?;
-    assert!(rt; !is_first(&script));
     let printed = print_script(rt.alloc(), &script)?;
     assert!(rt; printed.as_slice() == text.as_bytes());
     Ok(())
