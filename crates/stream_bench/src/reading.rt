@@ -1,9 +1,12 @@
 // A trace is read in pieces, or its records are decoded alone.
+ghost use Rattle.std.specs.Prelude.{◌≡◌, ◌+◌, ◌^◌, ◌<◌, ◌≤◌, length};
+ghost use Rattle.trace_stream.specs.Readings.{fed_count};
+
 use crate::work::Tally;
 use cxl_codec::{decode_event_into, decode_header};
 use cxl_message::Event;
 use std::alloc::{AllocError, Global};
-use trace_stream::{Found, TraceReader};
+use trace_stream::{Found, Room, TraceReader};
 
 /// More bytes than a trace has.
 const LIMIT: u64 = 1 << 62;
@@ -29,26 +32,19 @@ pub fn decode(trace: &[u8], room: &mut [Event], tally: &mut Tally) {
     tally.add_bytes(trace.len());
 }
 
-/// Reads a trace in pieces of so many bytes, each event into the same place.
-pub fn read(
-    alloc: Global,
-    trace: &[u8],
-    piece: u32,
-    room: &mut [Event],
-    tally: &mut Tally,
-) -> Result<(), AllocError> {
+/// Reads a trace in pieces of so many bytes, each item into the same room.
+pub fn read(alloc: Global, trace: &[u8], piece: u32, tally: &mut Tally) -> Result<(), AllocError> {
+    if trace.len() as u64 >= LIMIT {
+        return Ok(());
+    }
     let mut reader = TraceReader::new(alloc)?;
+    let mut room = Room::new();
     let mut ended = false;
-    for event in room.iter_mut() {
-        let mut rest = trace;
-        for _ in 0..trace.len() {
-            let (first, more) = rest.split_at(rest.len().min(piece as usize));
-            ended = feed(&mut reader, first, event, tally);
-            rest = more;
-            if rest.is_empty() {
-                break;
-            }
-        }
+    let mut rest = trace;
+    while !rest.is_empty() {
+        let (first, more) = rest.split_at(rest.len().min((piece as usize).max(1)));
+        ended = feed(&mut reader, first, &mut room, tally);
+        rest = more;
     }
     tally.same = tally.same && ended;
     tally.add_bytes(trace.len());
@@ -56,29 +52,30 @@ pub fn read(
 }
 
 /// Feeds a piece to the reader, and takes the items. It answers whether the last one of them was the end record.
-fn feed(reader: &mut TraceReader, piece: &[u8], event: &mut Event, tally: &mut Tally) -> bool {
+fn feed(reader: &mut TraceReader, piece: &[u8], room: &mut Room, tally: &mut Tally) -> bool
+    requires { fed_count reader.old + length piece.now < 2 ^ 63 }
+    ensures { fed_count reader.new ≤ fed_count reader.old + length piece.now }
+{
     let mut rest = piece;
-    let mut ended = false;
     for _ in 0..piece.len() {
-        if reader.fed() >= LIMIT || rest.len() as u64 >= LIMIT {
-            return false;
-        }
         let count = reader.feed(rest);
-        rest = rest.get(count..).unwrap_or(&[]);
-        ended = take(reader, event, tally);
-        if rest.is_empty() {
-            break;
+        let ended = take(reader, room, tally);
+        if count == rest.len() {
+            return ended;
         }
+        rest = &rest[count..];
     }
-    ended
+    false
 }
 
 /// Takes the items that the reader has. It answers whether the last one of them was the end record.
-fn take(reader: &mut TraceReader, event: &mut Event, tally: &mut Tally) -> bool {
+fn take(reader: &mut TraceReader, room: &mut Room, tally: &mut Tally) -> bool
+    ensures { fed_count reader.new ≡ fed_count reader.old }
+{
     let mut ended = false;
     for _ in 0..ITEMS {
-        match reader.next_into(event) {
-            Ok(Found::Event) => tally.add_event(event),
+        match reader.next_into(room) {
+            Ok(Found::Event) => tally.add_event(&room.event),
             Ok(Found::End { .. }) => ended = true,
             Ok(Found::More) => return ended,
             Ok(_) => {}

@@ -77,7 +77,7 @@ pub fn run(alloc: Global, work: Work, size: Size) -> Result<Tally, AllocError> {
     for _ in 0..size.rounds {
         match work {
             Work::Decode => decode(&trace, &mut room, &mut tally),
-            Work::Read => read(alloc, &trace, size.piece, &mut room, &mut tally)?,
+            Work::Read => read(alloc, &trace, size.piece, &mut tally)?,
             Work::Encode => encode(alloc, &trace, size.groups, &mut tally)?,
             Work::Write => write(alloc, &trace, size, &mut tally)?,
         }
