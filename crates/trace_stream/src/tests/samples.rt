@@ -141,10 +141,8 @@ pub fn read(
                 }
                 let piece = left.get(..chunk).unwrap_or(left);
                 if piece.is_empty() {
-                    return Ok(Outcome {
-                        items,
-                        end: reader.finish(),
-                    });
+                    let end = reader.finish();
+                    return Ok(Outcome { items, end });
                 }
                 if reader.fed() < 1_000_000_000 && piece.len() < 1_000_000_000 {
                     let count = reader.feed(piece);
@@ -153,10 +151,8 @@ pub fn read(
             }
             Ok(item) => items.push(item)?,
             Err(_) => {
-                return Ok(Outcome {
-                    items,
-                    end: reader.finish(),
-                });
+                let end = reader.finish();
+                return Ok(Outcome { items, end });
             }
         }
     }
