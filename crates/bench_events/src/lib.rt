@@ -1,4 +1,4 @@
-// The events that the benchmarks of records go over.
+//! The events that the benchmarks of records go over.
 #![tactic(auto)]
 
 mod samples;

@@ -2,6 +2,7 @@
 // conflict on the way, two stores and a credit.
 ghost use Rattle.std.specs.Prelude.{◌≡◌, IsTrue};
 ghost use Rattle.cxl_message.specs.Formed.{well_formed, message_formed, place_exists};
+ghost use Rattle.cxl_codec.specs.VersionOne.{fits_version_one, message_fits_version_one};
 
 use cxl_message::{
     Act, BiTag, Bytes64, Cause, Channel, Commit, Event, Line, Message, Meta, NdrOp, Op, Out, ReqOp,
@@ -18,7 +19,8 @@ const BYTES: Bytes64 = Bytes64([7; 64]);
 
 /// A host begins a load, which sends its request.
 pub fn begun() -> Event
-    ensures { IsTrue (well_formed result) }
+    ensures formed { IsTrue (well_formed result) }
+    ensures version_one { IsTrue (fits_version_one result) }
 {
     Event {
         agent: 0,
@@ -34,7 +36,8 @@ pub fn begun() -> Event
 
 /// The device takes the request.
 pub fn asked() -> Event
-    ensures { IsTrue (well_formed result) }
+    ensures formed { IsTrue (well_formed result) }
+    ensures version_one { IsTrue (fits_version_one result) }
 {
     Event {
         agent: 16,
@@ -49,7 +52,8 @@ pub fn asked() -> Event
 
 /// The device begins the request's task.
 pub fn started() -> Event
-    ensures { IsTrue (well_formed result) }
+    ensures formed { IsTrue (well_formed result) }
+    ensures version_one { IsTrue (fits_version_one result) }
 {
     Event {
         agent: 16,
@@ -61,7 +65,8 @@ pub fn started() -> Event
 
 /// The device asks another host.
 pub fn snooped() -> Event
-    ensures { IsTrue (well_formed result) }
+    ensures formed { IsTrue (well_formed result) }
+    ensures version_one { IsTrue (fits_version_one result) }
 {
     Event {
         agent: 16,
@@ -76,7 +81,8 @@ pub fn snooped() -> Event
 
 /// The other host declares a conflict.
 pub fn conflicted() -> Event
-    ensures { IsTrue (well_formed result) }
+    ensures formed { IsTrue (well_formed result) }
+    ensures version_one { IsTrue (fits_version_one result) }
 {
     Event {
         agent: 1,
@@ -88,7 +94,8 @@ pub fn conflicted() -> Event
 
 /// The other host answers.
 pub fn answered() -> Event
-    ensures { IsTrue (well_formed result) }
+    ensures formed { IsTrue (well_formed result) }
+    ensures version_one { IsTrue (fits_version_one result) }
 {
     Event {
         agent: 1,
@@ -100,7 +107,8 @@ pub fn answered() -> Event
 
 /// The device grants the line.
 pub fn granted() -> Event
-    ensures { IsTrue (well_formed result) }
+    ensures formed { IsTrue (well_formed result) }
+    ensures version_one { IsTrue (fits_version_one result) }
 {
     Event {
         agent: 16,
@@ -112,7 +120,8 @@ pub fn granted() -> Event
 
 /// The host takes the data, and the load commits.
 pub fn committed() -> Event
-    ensures { IsTrue (well_formed result) }
+    ensures formed { IsTrue (well_formed result) }
+    ensures version_one { IsTrue (fits_version_one result) }
 {
     Event {
         agent: 0,
@@ -132,7 +141,8 @@ pub fn committed() -> Event
 
 /// A store of a word that hits.
 pub fn stored() -> Event
-    ensures { IsTrue (well_formed result) }
+    ensures formed { IsTrue (well_formed result) }
+    ensures version_one { IsTrue (fits_version_one result) }
 {
     Event {
         agent: 0,
@@ -153,7 +163,8 @@ pub fn stored() -> Event
 
 /// A store of a whole line that evicts another line.
 pub fn written() -> Event
-    ensures { IsTrue (well_formed result) }
+    ensures formed { IsTrue (well_formed result) }
+    ensures version_one { IsTrue (fits_version_one result) }
 {
     Event {
         agent: 0,
@@ -172,7 +183,8 @@ pub fn written() -> Event
 
 /// A host gives a credit back.
 pub fn returned() -> Event
-    ensures { IsTrue (well_formed result) }
+    ensures formed { IsTrue (well_formed result) }
+    ensures version_one { IsTrue (fits_version_one result) }
 {
     Event {
         agent: 0,
@@ -221,7 +233,8 @@ fn word() -> Op
 
 /// The request.
 fn read() -> Message
-    ensures { IsTrue (message_formed result) }
+    ensures formed { IsTrue (message_formed result) }
+    ensures version_one { IsTrue (message_fits_version_one result) }
 {
     Message::Req {
         op: ReqOp::MemRd,
@@ -234,7 +247,8 @@ fn read() -> Message
 
 /// A snoop.
 fn snoop() -> Message
-    ensures { IsTrue (message_formed result) }
+    ensures formed { IsTrue (message_formed result) }
+    ensures version_one { IsTrue (message_fits_version_one result) }
 {
     Message::BiSnp {
         op: SnpOp::Inv,
@@ -246,14 +260,16 @@ fn snoop() -> Message
 
 /// A conflict.
 fn conflict() -> Message
-    ensures { IsTrue (message_formed result) }
+    ensures formed { IsTrue (message_formed result) }
+    ensures version_one { IsTrue (message_fits_version_one result) }
 {
     Message::BiConflict { tag: TAG }
 }
 
 /// The answer to the snoop.
 fn answer() -> Message
-    ensures { IsTrue (message_formed result) }
+    ensures formed { IsTrue (message_formed result) }
+    ensures version_one { IsTrue (message_fits_version_one result) }
 {
     Message::BiRsp {
         op: RspOp::I,
@@ -264,7 +280,8 @@ fn answer() -> Message
 
 /// The grant.
 fn grant() -> Message
-    ensures { IsTrue (message_formed result) }
+    ensures formed { IsTrue (message_formed result) }
+    ensures version_one { IsTrue (message_fits_version_one result) }
 {
     Message::Ndr {
         op: NdrOp::CmpE,
@@ -274,7 +291,8 @@ fn grant() -> Message
 
 /// The line's bytes.
 fn data() -> Message
-    ensures { IsTrue (message_formed result) }
+    ensures formed { IsTrue (message_formed result) }
+    ensures version_one { IsTrue (message_fits_version_one result) }
 {
     Message::MemData {
         tag: TAG,
@@ -284,7 +302,8 @@ fn data() -> Message
 
 /// The write of an evicted line.
 fn write() -> Message
-    ensures { IsTrue (message_formed result) }
+    ensures formed { IsTrue (message_formed result) }
+    ensures version_one { IsTrue (message_fits_version_one result) }
 {
     Message::MemWr {
         meta: Meta::Invalid,

@@ -1,6 +1,6 @@
-// Traces that break a rule: each function has an empty body, and its contract is theorems that the check computes.
-//
-// Each is a worked trace with one event changed. The verdict names that event and the first rule that fails there.
+//! Traces that break a rule: each function has an empty body, and its contract is theorems that the check computes.
+//!
+//! Each is a worked trace with one event changed. The verdict names that event and the first rule that fails there.
 #![tactic(auto)]
 
 ghost use Rattle.broken_runs.specs.FirstRules.{BreaksP0, BreaksK0, BreaksS0};

@@ -20,7 +20,7 @@ use Rattle.coherence_model.specs.Runs.{is_allowed}
 use Rattle.coherence_model.specs.Traces.{events_of}
 use Rattle.coherence_model.specs.Words.{when}
 use Rattle.coherence_model.proofs.Allowed.{allowed_own, allowed_takeable, own_half_parts}
-use Rattle.coherence_lemmas.proofs.Events.{commits_same, sends_eq-same}
+use Rattle.cxl_message.proofs.SameEvents.{commits_same, sends_eq-same}
 
 -- what an event's profile says
 pub record Profiled (setup : Configuration) (e : Event) : Type 0 where

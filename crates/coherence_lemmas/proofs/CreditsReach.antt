@@ -14,7 +14,7 @@ use Rattle.cxl_message.specs.Messages.{channel_of}
 use Rattle.cxl_message.specs.Setup.{Configuration}
 use Rattle.coherence_model.specs.Credits.{channel_short_of, credits_left, credits_needed, lacking_channel}
 use Rattle.coherence_model.specs.Flight.{is_on}
-use Rattle.coherence_lemmas.proofs.Codes.{channel_eq-same, same-channel_eq}
+use Rattle.cxl_message.proofs.SameNames.{channel_eq-same, same-channel_eq}
 
 -- how many of the sent messages go on channel c of host h
 abbrev pub count_on : ℕ → Channel → List Out → ℕ

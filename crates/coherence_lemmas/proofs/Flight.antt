@@ -16,7 +16,7 @@ use Rattle.coherence_model.specs.Fitting.{cause_fits}
 use Rattle.coherence_model.specs.Flight.{in_flight, is_first_of_tag, is_takeable, sends_on, shares_tag, takes_on, without_taken}
 use Rattle.coherence_model.specs.Next.{receiver}
 use Rattle.coherence_model.specs.Rules.{k0_takeable}
-use Rattle.coherence_lemmas.proofs.Codes.{channel_eq-same}
+use Rattle.cxl_message.proofs.SameNames.{channel_eq-same}
 use Rattle.coherence_lemmas.proofs.Directions.{take_parts}
 use Rattle.coherence_lemmas.proofs.OwnEvents.{is_foreign}
 

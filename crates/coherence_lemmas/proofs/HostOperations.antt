@@ -7,7 +7,7 @@ use Rattle.cxl_message.specs.Events.{line_of}
 use Rattle.cxl_message.specs.Setup.{Configuration}
 use Rattle.coherence_model.specs.Cache.{copy, is_writable, needs_victim, victim_way}
 use Rattle.coherence_model.specs.Emission.{Emission, one_commit, one_send, two_sends}
-use Rattle.coherence_model.specs.FlatMemory.{line_after}
+use Rattle.cxl_message.specs.Stores.{line_after}
 use Rattle.coherence_model.specs.HostOperations.{eviction_message, h1_hit, h2_request, hits, host_operates, request_alone, request_emission, request_evicting, request_message, request_with_victim}
 use Rattle.coherence_model.specs.Snoops.{is_quiet}
 use Rattle.coherence_model.specs.Tags.{free_tags}

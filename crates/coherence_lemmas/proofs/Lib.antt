@@ -1,6 +1,3 @@
-pub mod Codes
-pub mod Messages
-pub mod Events
 pub mod OwnEvents
 pub mod Directions
 pub mod Allowed

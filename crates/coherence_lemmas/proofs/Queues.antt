@@ -8,7 +8,7 @@ use Rattle.std.proofs.lemmas.List.Sums.{sum_by-cons}
 use Rattle.cxl_message.specs.declared.messages.Message.{Message}
 use Rattle.cxl_message.specs.Messages.{message_eq}
 use Rattle.coherence_model.specs.Flight.{without_first, without_taken}
-use Rattle.coherence_lemmas.proofs.Messages.{message_eq-same}
+use Rattle.cxl_message.proofs.SameMessages.{message_eq-same}
 
 -- one less is left
 left_by :

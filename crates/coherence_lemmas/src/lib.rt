@@ -1,16 +1,3 @@
-// Lemmas on the coherence model that the laws of every run cite, and the law that equality of events is decided.
+//! Lemmas on the coherence model that the laws of every run cite: an agent's own and foreign events, messages in flight,
+//! and an inversion lemma for each row. They stand in proofs/; no function of this crate has a contract.
 #![tactic(auto)]
-
-ghost use Rattle.coherence_lemmas.specs.Laws.{ChannelsDecide, CommitsDecide, LinesDecide, MessagesDecide, OperationsDecide, OutsDecide, SendsDecide};
-
-/// The tests that compare messages, what is sent, operations, commits, channels and the bytes of a line hold exactly where
-/// both are the same (own rule: each is compared by its numbers).
-pub fn equality_is_decided()
-    ensures messages { MessagesDecide }
-    ensures sent { OutsDecide }
-    ensures sends { SendsDecide }
-    ensures operations { OperationsDecide }
-    ensures commits { CommitsDecide }
-    ensures channels { ChannelsDecide }
-    ensures lines { LinesDecide }
-{}

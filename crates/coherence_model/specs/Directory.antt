@@ -1,12 +1,12 @@
 -- What the device knows of its lines: which hosts are listed, which tasks stand, and which lines have an entry in the filter.
-use Rattle.std.specs.Prelude.{Bool, List, None, Option, [], find, if◌then◌else◌, nat_le, not, option_map, ℕ, ◌%◌, ◌&&◌, ◌-◌, ◌==◌, ◌||◌}
+use Rattle.std.specs.Prelude.{Bool, List, None, Option, [], find, if◌then◌else◌, nat_le, not, option_map, ℕ, ◌&&◌, ◌==◌, ◌||◌}
 use Rattle.std.specs.List.{list_all, list_any}
 use Rattle.cxl_message.specs.declared.opcodes.Span.{Span}
 use Rattle.cxl_message.specs.declared.states.Listing.{Listing}
 use Rattle.cxl_message.specs.Codes.{listing_code}
 use Rattle.cxl_message.specs.Lists.{below, is_in}
 use Rattle.cxl_message.specs.Setup.{Configuration}
-use Rattle.cxl_message.specs.Spans.{lines_of}
+use Rattle.cxl_message.specs.Spans.{aligned, lines_of}
 use Rattle.coherence_model.specs.Tasks.{Purpose, Task, task_covers}
 
 -- the listing by line and host, the task by first line, and the lines with an entry, oldest first (own rule)
@@ -18,10 +18,6 @@ pub record Directory : Type 0 where
 -- no host is listed, no task stands and no line has an entry (own rule)
 abbrev pub empty_directory : Directory
 empty_directory = record { listed = λ a h. Listing.I; task = λ a. None; entries = [] }
-
--- the first line of the aligned block of n lines that has line a (own rule)
-abbrev pub aligned : ℕ → ℕ → ℕ
-aligned n a = a - a % n
 
 -- whether line a is Busy: it is a line of a task, whose first line is a multiple of its span (own rule)
 abbrev pub is_busy : Directory → ℕ → Bool

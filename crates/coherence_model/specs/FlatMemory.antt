@@ -1,24 +1,13 @@
 -- The flat memory: lines of 64 bytes, with no cache, no filter and no messages. A history is a list of commits, newest first.
-use Rattle.std.specs.Prelude.{Bool, List, [], drop, if◌then◌else◌, nat_lt, take, true, ℕ, ◌&&◌, ◌*◌, ◌++◌, ◌+◌, ◌==◌, ◌∷◌}
-use Rattle.std.specs.Int.{to_be_bytes, w64}
+use Rattle.std.specs.Prelude.{Bool, List, [], if◌then◌else◌, nat_lt, true, ℕ, ◌&&◌, ◌==◌, ◌∷◌}
 use Rattle.cxl_message.specs.declared.events.Commit.{Commit}
-use Rattle.cxl_message.specs.declared.events.Op.{Op}
 use Rattle.cxl_message.specs.declared.identifiers.Bytes64.{Bytes64}
 use Rattle.cxl_message.specs.declared.identifiers.Line.{Line}
 use Rattle.cxl_message.specs.Codes.{bytes_eq}
 use Rattle.cxl_message.specs.Events.{line_of}
 use Rattle.cxl_message.specs.Formed.{place_exists}
 use Rattle.cxl_message.specs.Opening.{bytes_at}
-
--- the bytes with the 8 from `8 * place` replaced, the highest byte of the value first (own rule)
-abbrev pub with_word : Bytes64 → ℕ → ℕ → Bytes64
-with_word bytes place value = record { 0 = take (8 * place) bytes.0 ++ to_be_bytes w64 value ++ drop (8 * place + 8) bytes.0 }
-
--- the line after an operation on it: a Load leaves it, a Word replaces 8 bytes, a Whole replaces all (own rule)
-abbrev pub line_after : Op → Bytes64 → Bytes64
-line_after (Op.Load _) bytes = bytes
-line_after (Op.Word _ place value) bytes = with_word bytes place value
-line_after (Op.Whole _ whole) bytes = whole
+use Rattle.cxl_message.specs.Stores.{line_after}
 
 -- line a of the flat memory after a history: the opening's bytes, changed by each operation on the line (own rule)
 abbrev pub flat_line : List (Line × Bytes64) → ℕ → List Commit → Bytes64

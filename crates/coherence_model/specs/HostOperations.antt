@@ -10,7 +10,7 @@ use Rattle.cxl_message.specs.Events.{is_load, line_of}
 use Rattle.cxl_message.specs.Setup.{Configuration}
 use Rattle.coherence_model.specs.Cache.{copy, has_copy, is_modified, is_writable, needs_victim, victim_way}
 use Rattle.coherence_model.specs.Emission.{Emission, one_commit, one_send, two_sends}
-use Rattle.coherence_model.specs.FlatMemory.{line_after}
+use Rattle.cxl_message.specs.Stores.{line_after}
 use Rattle.coherence_model.specs.Snoops.{is_quiet}
 use Rattle.coherence_model.specs.Tags.{free_tags}
 use Rattle.coherence_model.specs.Words.{when}

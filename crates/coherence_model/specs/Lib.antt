@@ -30,6 +30,7 @@ pub mod Fitting
 pub mod Rules
 pub mod Rows
 pub mod Runs
+pub mod OwnRuns
 pub mod Verdicts
 pub mod Coherence
 pub mod Pending

@@ -1,4 +1,4 @@
-// The laws of every run together: coherence and progress.
+//! The laws of every run together: coherence and progress.
 #![tactic(auto)]
 
 ghost use Rattle.coherent_runs.specs.Coherent.{RunsAreCoherent};

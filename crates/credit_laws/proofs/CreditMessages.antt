@@ -13,9 +13,9 @@ use Rattle.cxl_message.specs.Messages.{channel_of, message_eq}
 use Rattle.coherence_model.specs.Credits.{is_credit_for, takes_credit}
 use Rattle.coherence_model.specs.Flight.{is_on, takes_on}
 use Rattle.coherence_model.specs.Next.{receiver, sender}
-use Rattle.coherence_lemmas.proofs.Codes.{same-channel_eq}
+use Rattle.cxl_message.proofs.SameNames.{same-channel_eq}
 use Rattle.coherence_lemmas.proofs.CreditsReach.{on_channel}
-use Rattle.coherence_lemmas.proofs.Messages.{message_eq-same, same-message_eq}
+use Rattle.cxl_message.proofs.SameMessages.{message_eq-same, same-message_eq}
 use Rattle.coherence_lemmas.proofs.Queues.{counts}
 
 -- two tests of which each implies the other are one

@@ -36,7 +36,7 @@ use Rattle.coherence_model.specs.Transactions.{open_at}
 use Rattle.coherence_lemmas.proofs.DeviceActs.{v3_serve-inv, v4_clean-inv, v5_start-inv, v6_evict-inv, v7_snoop-inv, v8_finish-inv, v9_return-inv}
 use Rattle.coherence_lemmas.proofs.HostActs.{h10_return-inv, h7_conflict-inv, h8_write_back-inv, h9_answer-inv, h9_answer_block-inv}
 use Rattle.coherence_lemmas.proofs.HostOperations.{host_operates-inv}
-use Rattle.coherence_lemmas.proofs.Messages.{message_eq-same}
+use Rattle.cxl_message.proofs.SameMessages.{message_eq-same}
 use Rattle.coherence_lemmas.proofs.Options.{if_some}
 use Rattle.coherence_lemmas.proofs.TakesSendNothing.{device_takes_silent, host_takes_silent}
 use Rattle.credit_laws.specs.Laws.{buffered_count}

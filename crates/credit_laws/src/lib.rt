@@ -1,4 +1,4 @@
-// Laws of credits: after every run the credits of each channel add up.
+//! Laws of credits: after every run the credits of each channel add up.
 #![tactic(auto)]
 
 ghost use Rattle.credit_laws.specs.Laws.{

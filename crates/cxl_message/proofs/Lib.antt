@@ -1,1 +1,5 @@
 pub mod Ascending
+pub mod SameNames
+pub mod SameMessages
+pub mod SameEvents
+pub mod Decided

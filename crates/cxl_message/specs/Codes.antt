@@ -2,6 +2,7 @@
 use Rattle.std.specs.Prelude.{ℕ, Bool, ◌==◌, nat_eq}
 use lib.Pointwise.{pointwise}
 use Rattle.cxl_message.specs.declared.channels.Channel.{Channel}
+use Rattle.cxl_message.specs.declared.codes.TheConstants.{MEM_RD, MEM_INV, MEM_CLN_EVCT, MEM_WR, BI_CONFLICT, BI_RSP_I, BI_RSP_S, BI_RSP_E, BI_RSP_I_BLK, BI_RSP_S_BLK, BI_RSP_E_BLK, CMP, CMP_S, CMP_E, BI_CONFLICT_ACK, MEM_DATA, BI_SNP_CUR, BI_SNP_DATA, BI_SNP_INV, BI_SNP_CUR_BLK, BI_SNP_DATA_BLK, BI_SNP_INV_BLK, CREDIT}
 use Rattle.cxl_message.specs.declared.identifiers.Bytes64.{Bytes64}
 use Rattle.cxl_message.specs.declared.opcodes.Meta.{Meta}
 use Rattle.cxl_message.specs.declared.opcodes.SnpType.{SnpType}
@@ -39,50 +40,50 @@ channel_code Channel.CreditDown = 8
 
 -- the number of a Req opcode
 abbrev pub request_code : ReqOp → ℕ
-request_code ReqOp.MemRd = 0x01
-request_code ReqOp.MemInv = 0x02
-request_code ReqOp.MemClnEvct = 0x03
+request_code ReqOp.MemRd = MEM_RD
+request_code ReqOp.MemInv = MEM_INV
+request_code ReqOp.MemClnEvct = MEM_CLN_EVCT
 
 -- the number of MemWr
 abbrev pub write_code : ℕ
-write_code = 0x11
+write_code = MEM_WR
 
 -- the number of BIConflict
 abbrev pub conflict_code : ℕ
-conflict_code = 0x12
+conflict_code = BI_CONFLICT
 
 -- the number of a BIRsp opcode
 abbrev pub response_code : RspOp → ℕ
-response_code RspOp.I = 0x21
-response_code RspOp.S = 0x22
-response_code RspOp.E = 0x23
-response_code RspOp.IBlk = 0x24
-response_code RspOp.SBlk = 0x25
-response_code RspOp.EBlk = 0x26
+response_code RspOp.I = BI_RSP_I
+response_code RspOp.S = BI_RSP_S
+response_code RspOp.E = BI_RSP_E
+response_code RspOp.IBlk = BI_RSP_I_BLK
+response_code RspOp.SBlk = BI_RSP_S_BLK
+response_code RspOp.EBlk = BI_RSP_E_BLK
 
 -- the number of an NDR opcode
 abbrev pub completion_code : NdrOp → ℕ
-completion_code NdrOp.Cmp = 0x31
-completion_code NdrOp.CmpS = 0x32
-completion_code NdrOp.CmpE = 0x33
-completion_code NdrOp.ConflictAck = 0x34
+completion_code NdrOp.Cmp = CMP
+completion_code NdrOp.CmpS = CMP_S
+completion_code NdrOp.CmpE = CMP_E
+completion_code NdrOp.ConflictAck = BI_CONFLICT_ACK
 
 -- the number of MemData
 abbrev pub data_code : ℕ
-data_code = 0x41
+data_code = MEM_DATA
 
 -- the number of a BISnp opcode
 abbrev pub snoop_code : SnpOp → ℕ
-snoop_code SnpOp.Cur = 0x51
-snoop_code SnpOp.Dat = 0x52
-snoop_code SnpOp.Inv = 0x53
-snoop_code SnpOp.CurBlk = 0x54
-snoop_code SnpOp.DatBlk = 0x55
-snoop_code SnpOp.InvBlk = 0x56
+snoop_code SnpOp.Cur = BI_SNP_CUR
+snoop_code SnpOp.Dat = BI_SNP_DATA
+snoop_code SnpOp.Inv = BI_SNP_INV
+snoop_code SnpOp.CurBlk = BI_SNP_CUR_BLK
+snoop_code SnpOp.DatBlk = BI_SNP_DATA_BLK
+snoop_code SnpOp.InvBlk = BI_SNP_INV_BLK
 
 -- the number of a Credit
 abbrev pub credit_code : ℕ
-credit_code = 0x61
+credit_code = CREDIT
 
 -- how many lines a span has
 abbrev pub span_len : Span → ℕ

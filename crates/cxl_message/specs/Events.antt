@@ -1,6 +1,7 @@
 -- What an event is: its sends in order, and the tests that compare events.
-use Rattle.std.specs.Prelude.{ℕ, Bool, true, false, List, [], ◌∷◌, ◌&&◌, ◌==◌, nat_eq}
+use Rattle.std.specs.Prelude.{ℕ, Bool, true, false, List, [], ◌∷◌, Option, Some, None, ◌&&◌, ◌==◌, nat_eq}
 use lib.Pointwise.{pointwise}
+use Rattle.cxl_message.specs.declared.events.Act.{Act}
 use Rattle.cxl_message.specs.declared.events.Op.{Op}
 use Rattle.cxl_message.specs.declared.events.Out.{Out}
 use Rattle.cxl_message.specs.declared.events.Sends.{Sends}
@@ -25,6 +26,27 @@ abbrev pub is_load : Op → Bool
 is_load (Op.Load _) = true
 is_load (Op.Word _ _ _) = false
 is_load (Op.Whole _ _) = false
+
+-- whether an operation stores a whole line
+abbrev pub is_whole : Op → Bool
+is_whole (Op.Load _) = false
+is_whole (Op.Word _ _ _) = false
+is_whole (Op.Whole _ _) = true
+
+-- the Tag that an act names, if it names one
+abbrev pub tag_of_act : Act → Option ℕ
+tag_of_act (Act.Conflict _) = None
+tag_of_act (Act.WriteBack _) = None
+tag_of_act (Act.Answer _) = None
+tag_of_act (Act.AnswerBlock _) = None
+tag_of_act (Act.HostReturn _) = None
+tag_of_act (Act.Serve _ tag) = Some tag.0
+tag_of_act (Act.Clean _ tag) = Some tag.0
+tag_of_act (Act.Start _ tag) = Some tag.0
+tag_of_act (Act.Evict _ tag) = Some tag.0
+tag_of_act (Act.Snoop _ _) = None
+tag_of_act (Act.Finish _) = None
+tag_of_act (Act.DeviceReturn _ _) = None
 
 -- an operation as a list of numbers: its kind, then its fields (own rule)
 abbrev pub op_key : Op → List ℕ

@@ -1,5 +1,5 @@
 -- Which events are well formed: their numbers are such as a record of a trace can have. Every rule here is an own rule.
-use Rattle.std.specs.Prelude.{ℕ, Bool, true, false, ◌&&◌, nat_lt, nat_le}
+use Rattle.std.specs.Prelude.{Bool, true, false, ◌&&◌, nat_lt, nat_le}
 use Rattle.std.specs.List.{list_all}
 use Rattle.std.specs.Option.{option_map_or}
 use Rattle.cxl_message.specs.declared.opcodes.SnpOp.{SnpOp}

@@ -4,10 +4,12 @@ pub mod Channels
 pub mod Spans
 pub mod Messages
 pub mod Events
+pub mod Stores
 pub mod Profile
 pub mod Formed
 pub mod Setup
 pub mod Opening
+pub mod Equality
 pub mod Padding
 pub mod Places
 pub mod Script

@@ -1,6 +1,6 @@
 -- How a setup keeps the hosts of its streams: in 64 places, those past the last stream zero.
 use Rattle.std.specs.Prelude.{ℕ, ◌≡◌, ◌≤◌, List, length, take}
-use Rattle.std.proofs.Common.{refl, ap, sym, ◌∙◌}
+use Rattle.std.proofs.Common.{ap, sym, ◌∙◌}
 use Rattle.cxl_message.specs.declared.configuration.Setup.TheInside.{Inside}
 use Rattle.cxl_message.specs.Setup.{Configuration, IsWithinLimits}
 use Rattle.cxl_message.specs.Padding.{padded}

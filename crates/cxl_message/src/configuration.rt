@@ -3,6 +3,10 @@ ghost use Rattle.std.specs.List.{list_all};
 ghost use Rattle.std.specs.Prelude.{◌≡◌, ◌≤◌, length, nat_lt};
 ghost use Rattle.cxl_message.specs.Padding.{padded};
 
+use crate::limits::{
+    MAX_CREDITS, MAX_ENTRIES, MAX_HOSTS, MAX_LINES, MAX_STREAMS, MAX_TAGS, MAX_WAYS, MIN_CREDITS,
+    MIN_TAGS,
+};
 use std::marker::Model;
 use thiserror::Error;
 
@@ -10,25 +14,25 @@ use thiserror::Error;
 #[derive(Clone, Copy, PartialEq, Eq, Debug, Error)]
 pub enum SetupRefusal {
     /// There are 1 to 16 hosts.
-    #[error("hosts")]
+    #[error("hosts: there are 1 to 16")]
     Hosts,
     /// There are 1 to 65,536 lines.
-    #[error("lines")]
+    #[error("lines: there are 1 to 65536")]
     Lines,
     /// There are 1 to 4,096 filter entries.
-    #[error("entries")]
+    #[error("filter entries: there are 1 to 4096")]
     Entries,
     /// There are 1 to 256 ways.
-    #[error("ways")]
+    #[error("ways: each host has 1 to 256")]
     Ways,
-    /// There are 2 to 64 tags.
-    #[error("tags")]
+    /// There are 2 to 1,024 tags.
+    #[error("tags: each host has 2 to 1024")]
     Tags,
     /// There are 2 to 64 credits.
-    #[error("credits")]
+    #[error("credits: each channel has 2 to 64")]
     Credits,
     /// There are at most 64 streams, and each one's host exists.
-    #[error("streams")]
+    #[error("streams: there are at most 64, each on a host that there is")]
     Streams,
 }
 
@@ -40,7 +44,7 @@ pub struct Setup {
     lines: u32,
     entries: u16,
     ways: u16,
-    tags: u8,
+    tags: u16,
     credits: u8,
     // The streams' hosts, and zeros after them.
     places: [u8; 64],
@@ -74,7 +78,7 @@ impl Setup {
         lines: u32,
         entries: u16,
         ways: u16,
-        tags: u8,
+        tags: u16,
         credits: u8,
         streams: &[u8],
     ) -> Result<Setup, SetupRefusal>
@@ -82,25 +86,25 @@ impl Setup {
         ensures within { IfOk result (λ setup. IsWithinLimits setup) }
         ensures refused { IfErr result (λ refusal. setup_refusal (record { hosts = hosts; lines = lines; entries = entries; ways = ways; tags = tags; credits = credits; streams = streams.now }) ≡ Some refusal) }
     {
-        if hosts < 1 || hosts > 16 {
+        if hosts < 1 || hosts > MAX_HOSTS {
             return Err(SetupRefusal::Hosts);
         }
-        if lines < 1 || lines > 65536 {
+        if lines < 1 || lines > MAX_LINES {
             return Err(SetupRefusal::Lines);
         }
-        if entries < 1 || entries > 4096 {
+        if entries < 1 || entries > MAX_ENTRIES {
             return Err(SetupRefusal::Entries);
         }
-        if ways < 1 || ways > 256 {
+        if ways < 1 || ways > MAX_WAYS {
             return Err(SetupRefusal::Ways);
         }
-        if tags < 2 || tags > 64 {
+        if tags < MIN_TAGS || tags > MAX_TAGS {
             return Err(SetupRefusal::Tags);
         }
-        if credits < 2 || credits > 64 {
+        if credits < MIN_CREDITS || credits > MAX_CREDITS {
             return Err(SetupRefusal::Credits);
         }
-        if streams.len() > 64 || !hosts_exist(hosts, streams) {
+        if streams.len() > MAX_STREAMS as usize || !hosts_exist(hosts, streams) {
             return Err(SetupRefusal::Streams);
         }
         Ok(Setup {
@@ -147,8 +151,8 @@ impl Setup {
         self.ways
     }
 
-    /// The number of tags of each host, 2 to 64. The write-back tag comes after them.
-    pub fn tags(&self) -> u8
+    /// The number of tags of each host, 2 to 1,024. The write-back tag comes after them.
+    pub fn tags(&self) -> u16
         ensures tags { result ≡ self.now.tags }
         ensures within { IsWithinLimits self.now }
     {

@@ -3,9 +3,10 @@ ghost use Rattle.std.specs.List.{list_all};
 ghost use Rattle.std.specs.Prelude.{◌≡◌, true};
 ghost use Rattle.std.specs.Option.{option_map_or};
 ghost use Rattle.cxl_message.specs.Events.{outs};
-ghost use Rattle.cxl_message.specs.Formed.{is_block_snoop as is_block_opcode, span_fits as opcode_span_fits, place_exists as word_place_exists, message_formed as is_message_formed, act_formed as is_act_formed, cause_formed as is_cause_formed, out_formed as is_out_formed, commit_formed as is_commit_formed, well_formed as is_well_formed};
+ghost use Rattle.cxl_message.specs.Formed.{is_block_snoop as is_block_opcode, span_fits as opcode_span_fits, message_formed as is_message_formed, act_formed as is_act_formed, cause_formed as is_cause_formed, out_formed as is_out_formed, commit_formed as is_commit_formed, well_formed as is_well_formed};
 
-use crate::events::{Act, Cause, Commit, Event, Op, Out, Sends};
+use crate::events::{Act, Cause, Commit, Event, Out, Sends};
+use crate::limits::{DEVICE, MAX_HOSTS, MAX_STREAMS};
 use crate::messages::Message;
 use crate::opcodes::{SnpOp, Span};
 
@@ -15,19 +16,19 @@ use crate::opcodes::{SnpOp, Span};
 pub fn well_formed(event: &Event) -> bool
     ensures { result ≡ is_well_formed event.now }
 {
-    event.agent <= 16
+    event.agent <= DEVICE
         && cause_formed(&event.cause)
         && sends_formed(&event.sends)
         && commit_formed(&event.commit)
 }
 
-/// Whether the numbers of a cause are such as a record can have.
-fn cause_formed(cause: &Cause) -> bool
+/// Whether the numbers of a cause are such as a record can have: those of a well-formed event's cause (own rule).
+pub fn cause_formed(cause: &Cause) -> bool
     ensures { result ≡ is_cause_formed cause.now }
 {
     match cause {
-        Cause::Op { stream, op, .. } => *stream < 64 && place_exists(op),
-        Cause::Take { host, message } => *host < 16 && message_formed(message),
+        Cause::Op { stream, op, .. } => *stream < MAX_STREAMS && op.place_exists(),
+        Cause::Take { host, message } => *host < MAX_HOSTS && message_formed(message),
         Cause::Act(act) => act_formed(act),
     }
 }
@@ -47,7 +48,7 @@ fn sends_formed(sends: &Sends) -> bool
 fn out_formed(out: &Out) -> bool
     ensures { result ≡ is_out_formed out.now }
 {
-    out.host < 16 && message_formed(&out.message)
+    out.host < MAX_HOSTS && message_formed(&out.message)
 }
 
 /// Whether the numbers of a commit, if there is one, are such as a record can have.
@@ -55,7 +56,7 @@ fn commit_formed(commit: &Option<Commit>) -> bool
     ensures { result ≡ option_map_or is_commit_formed commit.now true }
 {
     match commit {
-        Some(commit) => commit.stream < 64 && place_exists(&commit.op),
+        Some(commit) => commit.stream < MAX_STREAMS && commit.op.place_exists(),
         None => true,
     }
 }
@@ -86,24 +87,13 @@ fn act_formed(act: &Act) -> bool
         Act::Answer(_) => true,
         Act::AnswerBlock(_) => true,
         Act::HostReturn(channel) => channel.has_credits(),
-        Act::Serve { host, .. } => *host < 16,
-        Act::Clean { host, .. } => *host < 16,
-        Act::Start { host, .. } => *host < 16,
-        Act::Evict { host, .. } => *host < 16,
-        Act::Snoop { host, .. } => *host < 16,
+        Act::Serve { host, .. } => *host < MAX_HOSTS,
+        Act::Clean { host, .. } => *host < MAX_HOSTS,
+        Act::Start { host, .. } => *host < MAX_HOSTS,
+        Act::Evict { host, .. } => *host < MAX_HOSTS,
+        Act::Snoop { host, .. } => *host < MAX_HOSTS,
         Act::Finish(_) => true,
-        Act::DeviceReturn { host, channel } => *host < 16 && channel.has_credits(),
-    }
-}
-
-/// Whether the place of a Word is one of the eight of its line.
-fn place_exists(op: &Op) -> bool
-    ensures { result ≡ word_place_exists op.now }
-{
-    match op {
-        Op::Word { place, .. } => *place < 8,
-        Op::Load { .. } => true,
-        Op::Whole { .. } => true,
+        Act::DeviceReturn { host, channel } => *host < MAX_HOSTS && channel.has_credits(),
     }
 }
 

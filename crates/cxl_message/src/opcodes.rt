@@ -85,7 +85,10 @@ pub enum SnpOp {
 /// How many lines a snoop is for. A block of two or four lines begins at a multiple of its length (CXL 3.1, chapter 3).
 #[derive(Clone, Copy, PartialEq, Eq, Debug)]
 pub enum Span {
+    /// One line.
     One,
+    /// Two lines.
     Two,
+    /// Four lines.
     Four,
 }

@@ -4,6 +4,7 @@ ghost use Rattle.std.specs.Prelude.{◌≡◌, ◌==◌, find, IsTrue};
 ghost use Rattle.cxl_message.specs.Codes.{bytes_eq};
 ghost use Rattle.cxl_message.specs.Opening.{ascends_from, is_after_last, zero_bytes};
 
+use crate::configuration::Setup;
 use crate::identifiers::{Bytes64, Line};
 use std::alloc::Global;
 use std::marker::Model;
@@ -13,13 +14,13 @@ use thiserror::Error;
 #[derive(Clone, Copy, PartialEq, Eq, Debug, Error)]
 pub enum OpeningRefusal {
     /// The line isn't greater than the last one added.
-    #[error("order")]
+    #[error("order: the line isn't greater than the last one")]
     Order,
     /// All bytes are 0.
-    #[error("zero")]
+    #[error("zero: all bytes of the line are 0")]
     Zero,
     /// There is no memory.
-    #[error("memory")]
+    #[error("memory: there is none left")]
     Memory,
 }
 
@@ -45,7 +46,7 @@ impl Model for Opening {
 
 impl Opening {
     ghost use Rattle.std.specs.Prelude.{[], ◌∷◌, ◌++◌, OnOk, OnErr, Err, Some, None};
-    ghost use Rattle.cxl_message.specs.Opening.{IsOpening, bytes_at as opening_bytes_at, opening_refusal};
+    ghost use Rattle.cxl_message.specs.Opening.{IsOpening, bytes_at as opening_bytes_at, opening_fits, opening_refusal};
 
     /// The opening of which all lines are zero.
     pub fn new(alloc: Global) -> Opening
@@ -85,6 +86,13 @@ impl Opening {
         ensures opening { IsOpening self.now }
     {
         &self.pairs
+    }
+
+    /// Whether the opening names only lines of the setup.
+    pub fn fits(&self, setup: &Setup) -> bool
+        ensures { result ≡ opening_fits setup.now.lines self.now }
+    {
+        self.pairs.iter().all(|pair| pair.0.0 < setup.lines())
     }
 
     /// The bytes of a line: zeros where it isn't among the pairs. It takes time logarithmic in their number.

@@ -1,16 +1,19 @@
 // What the contracts leave to examples: each public call on its happy path, and the limits as a person knows them.
+mod profile;
+mod values;
+
 use super::*;
 use std::test::Fail;
 
 /// A setup of one stream with these numbers.
-fn refusal(numbers: (u8, u32, u16, u16, u8, u8), streams: &[u8]) -> Option<SetupRefusal> {
+fn refusal(numbers: (u8, u32, u16, u16, u16, u8), streams: &[u8]) -> Option<SetupRefusal> {
     let (hosts, lines, entries, ways, tags, credits) = numbers;
     Setup::new(hosts, lines, entries, ways, tags, credits, streams).err()
 }
 
 #[test]
 fn setups_are_refused_by_their_first_bad_number(rt: HostRuntime) {
-    let good = (16, 65536, 4096, 256, 64, 64);
+    let good = (16, 65536, 4096, 256, 1024, 64);
     assert_eq!(rt; refusal(good, &[0, 15]), None);
     assert_eq!(rt; refusal((1, 1, 1, 1, 2, 2), &[]), None);
     for (numbers, wanted) in [
@@ -23,7 +26,7 @@ fn setups_are_refused_by_their_first_bad_number(rt: HostRuntime) {
         ((1, 1, 1, 0, 0, 0), SetupRefusal::Ways),
         ((1, 1, 1, 257, 0, 0), SetupRefusal::Ways),
         ((1, 1, 1, 1, 1, 0), SetupRefusal::Tags),
-        ((1, 1, 1, 1, 65, 0), SetupRefusal::Tags),
+        ((1, 1, 1, 1, 1025, 0), SetupRefusal::Tags),
         ((1, 1, 1, 1, 2, 1), SetupRefusal::Credits),
         ((1, 1, 1, 1, 2, 65), SetupRefusal::Credits),
         ((1, 1, 1, 1, 2, 2), SetupRefusal::Streams),
@@ -32,6 +35,19 @@ fn setups_are_refused_by_their_first_bad_number(rt: HostRuntime) {
     }
     assert_eq!(rt; refusal(good, &[0; 64]), None);
     assert_eq!(rt; refusal(good, &[0; 65]), Some(SetupRefusal::Streams));
+}
+
+#[test]
+fn refusals_say_what_is_allowed(rt: HostRuntime) -> Result<(), Fail> {
+    assert_eq!(rt;
+        format!(in rt.alloc(); "{}", SetupRefusal::Tags)?.as_str(),
+        "tags: each host has 2 to 1024"
+    );
+    assert_eq!(rt;
+        format!(in rt.alloc(); "{}", OpeningRefusal::Order)?.as_str(),
+        "order: the line isn't greater than the last one"
+    );
+    Ok(())
 }
 
 #[test]
@@ -63,11 +79,13 @@ fn openings_keep_order_and_refuse_zeros(rt: HostRuntime) -> Result<(), Fail> {
     assert_eq!(rt; opening.bytes_at(Line(1)), full);
     assert_eq!(rt; opening.bytes_at(Line(2)), Bytes64([0; 64]));
     assert_eq!(rt; opening.bytes_at(Line(65535)), Bytes64([1; 64]));
+    assert!(rt; opening.fits(&Setup::new(1, 65536, 1, 1, 2, 2, &[])?));
+    assert!(rt; !opening.fits(&Setup::new(1, 65535, 1, 1, 2, 2, &[])?));
     Ok(())
 }
 
 #[test]
-fn messages_go_on_their_channels_and_have_a_profile(rt: HostRuntime) {
+fn messages_go_on_their_channels(rt: HostRuntime) {
     let read = Message::Req {
         op: ReqOp::MemRd,
         meta: Meta::Shared,
@@ -81,27 +99,19 @@ fn messages_go_on_their_channels_and_have_a_profile(rt: HostRuntime) {
         line: Line(4),
         span: Span::Four,
     };
-    let astray = Message::BiSnp {
-        op: SnpOp::InvBlk,
-        bitag: BiTag(0),
-        line: Line(4),
-        span: Span::Four,
-    };
     let credit = Message::Credit {
         channel: Channel::BiSnp,
     };
-    let lost = Message::Credit {
-        channel: Channel::CreditUp,
+    let back = Message::Credit {
+        channel: Channel::Rwd,
     };
-    for (message, channel, is_in) in [
-        (read, Channel::Req, true),
-        (snoop, Channel::BiSnp, true),
-        (astray, Channel::BiSnp, false),
-        (credit, Channel::CreditUp, true),
-        (lost, Channel::CreditUp, false),
+    for (message, channel) in [
+        (read, Channel::Req),
+        (snoop, Channel::BiSnp),
+        (credit, Channel::CreditUp),
+        (back, Channel::CreditDown),
     ] {
         assert_eq!(rt; message.channel(), channel, "at {message:?}");
-        assert_eq!(rt; in_profile(&message), is_in, "at {message:?}");
     }
     assert!(rt; Channel::Req.goes_to_device());
     assert!(rt; !Channel::CreditDown.goes_to_device());

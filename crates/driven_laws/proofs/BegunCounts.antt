@@ -15,8 +15,8 @@ use Rattle.coherence_model.specs.Streams.{begins_for, begun_count}
 use Rattle.coherence_model.specs.Traces.{events_of}
 use Rattle.coherence_model.specs.Weight.{is_operation}
 use Rattle.coherence_model.proofs.Allowed.{own_half_parts}
-use Rattle.request_laws.proofs.OwnRuns.{events_of_run}
-use Rattle.request_laws.specs.OwnRuns.{is_own_run}
+use Rattle.coherence_model.proofs.OwnRuns.{events_of_run}
+use Rattle.coherence_model.specs.OwnRuns.{is_own_run}
 use Rattle.step_laws.proofs.Counts.{Each, count_by-cons, each_weaker}
 use Rattle.driven_laws.specs.Reached.{IsReached}
 use Rattle.driven_laws.specs.Scripts.{IsDrivable}

@@ -16,8 +16,8 @@ use Rattle.coherence_model.specs.Traces.{events_of, history}
 use Rattle.coherence_lemmas.proofs.Allowed.{allowed_parts}
 use Rattle.coherence_lemmas.proofs.Rows.{device_row}
 use Rattle.request_laws.proofs.AllPlaces.{own_events}
-use Rattle.request_laws.proofs.OwnRuns.{events_of_run}
-use Rattle.request_laws.specs.OwnRuns.{is_own_run}
+use Rattle.coherence_model.proofs.OwnRuns.{events_of_run}
+use Rattle.coherence_model.specs.OwnRuns.{is_own_run}
 use Rattle.driven_laws.specs.Commits.{committed, named_by, numbered}
 use Rattle.driven_laws.specs.Reached.{IsReached}
 use Rattle.driven_laws.specs.Scripts.{IsDrivable}

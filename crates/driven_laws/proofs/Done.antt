@@ -17,7 +17,7 @@ use Rattle.coherence_model.specs.Traces.{device, events_of}
 use Rattle.coherence_model.specs.Transactions.{Transaction, is_open, open_at}
 use Rattle.entry_laws.proofs.Blocks.{any_at}
 use Rattle.request_laws.proofs.OpenLines.{open_leads_back}
-use Rattle.request_laws.proofs.OwnRuns.{events_of_run}
+use Rattle.coherence_model.proofs.OwnRuns.{events_of_run}
 use Rattle.step_laws.proofs.Counts.{each_from_all}
 use Rattle.driven_laws.specs.Commits.{numbered}
 use Rattle.driven_laws.specs.Laws.{EachIsCommitted}

@@ -12,7 +12,7 @@ use Rattle.cxl_message.specs.declared.opcodes.NdrOp.{NdrOp}
 use Rattle.cxl_message.specs.Opening.{zero_bytes}
 use Rattle.cxl_message.specs.Setup.{Configuration}
 use Rattle.coherence_model.specs.Emission.{Emission, nothing}
-use Rattle.coherence_model.specs.FlatMemory.{line_after}
+use Rattle.cxl_message.specs.Stores.{line_after}
 use Rattle.coherence_model.specs.HostActs.{host_acts}
 use Rattle.coherence_model.specs.HostTakes.{data_emission, fill_emission, grant_emission, h3_grant, host_takes, is_write_back_tag, may_grant}
 use Rattle.coherence_model.specs.Snoops.{snoop_at}

@@ -22,7 +22,7 @@ use Rattle.coherence_model.proofs.Allowed.{own_half_parts}
 use Rattle.coherence_lemmas.proofs.Rows.{host_take-inv}
 use Rattle.request_laws.proofs.OpenLines.{LeadBack, open_leads_back}
 use Rattle.request_laws.proofs.OwnRuns.{host_goes_on}
-use Rattle.request_laws.specs.OwnRuns.{is_own_run}
+use Rattle.coherence_model.specs.OwnRuns.{is_own_run}
 use Rattle.step_laws.proofs.Counts.{Each}
 use Rattle.driven_laws.proofs.HostEffects.{Filled, Leaves, TakeEffect, act_commits_none, take_effect}
 use Rattle.driven_laws.proofs.OperationEffects.{Committed, Exchanged, OperationEffect, Requested, operation_effect, operation_keeps}

@@ -20,8 +20,8 @@ use Rattle.coherence_model.specs.Flight.{in_flight, is_on, sends_on, takes_on, w
 use Rattle.coherence_model.specs.Snoops.{Snoop, buffered_snoops, snoop_of, snoops_after}
 use Rattle.coherence_model.specs.Traces.{events_of}
 use Rattle.coherence_model.specs.Words.{with_last}
-use Rattle.coherence_lemmas.proofs.Codes.{channel_eq-same}
-use Rattle.coherence_lemmas.proofs.Messages.{message_eq-same}
+use Rattle.cxl_message.proofs.SameNames.{channel_eq-same}
+use Rattle.cxl_message.proofs.SameMessages.{message_eq-same}
 use Rattle.machine.specs.Built.{is_built_completion, is_built_device_return, is_built_host_return, is_built_take}
 use Rattle.step_laws.proofs.Counts.{Each, each_append, each_filter}
 

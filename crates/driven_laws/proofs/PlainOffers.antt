@@ -15,7 +15,7 @@ use Rattle.coherence_model.specs.Cache.{copy, is_writable, needs_victim, victim_
 use Rattle.coherence_model.specs.Choices.{operation_step}
 use Rattle.coherence_model.specs.Credits.{lacking_channel}
 use Rattle.coherence_model.specs.Emission.{Emission, one_commit}
-use Rattle.coherence_model.specs.FlatMemory.{line_after}
+use Rattle.cxl_message.specs.Stores.{line_after}
 use Rattle.coherence_model.specs.HostOperations.{hits, host_operates, request_alone, request_with_victim}
 use Rattle.coherence_model.specs.Next.{event_with}
 use Rattle.coherence_model.specs.Refusals.{Answer, answer_to_operation, cause_passes, is_short_of_tags, is_short_of_ways, profile_then_order, unless_lacking}
@@ -29,7 +29,8 @@ use Rattle.coherence_model.specs.Words.{when}
 use Rattle.coherence_lemmas.proofs.Rows.{host_row}
 use Rattle.step_laws.proofs.Counts.{each_from_all}
 use Rattle.step_laws.proofs.OwnRuns.{host_is_no_device}
-use Rattle.machine.specs.Built.{is_built_operation, is_whole}
+use Rattle.machine.specs.Built.{is_built_operation}
+use Rattle.cxl_message.specs.Events.{is_whole}
 use Rattle.machine.specs.Offers.{as_result, offered_at, operation_answer_as_built}
 use Rattle.driven_laws.specs.Laws.{PlainOffersAreChoices, offered_steps}
 use Rattle.driven_laws.specs.Scripts.{IsPlain}

@@ -14,7 +14,8 @@ use Rattle.coherence_model.specs.Next.{next_steps}
 use Rattle.coherence_model.specs.Runs.{IsRun, is_allowed}
 use Rattle.coherence_model.specs.Traces.{events_of}
 use Rattle.coherence_model.specs.Weight.{is_operation}
-use Rattle.machine.specs.Built.{IsBuiltRun, is_built_after, is_whole}
+use Rattle.machine.specs.Built.{IsBuiltRun, is_built_after}
+use Rattle.cxl_message.specs.Events.{is_whole}
 use Rattle.step_laws.proofs.Counts.{all_from_each, each_from_all, each_weaker}
 use Rattle.step_laws.proofs.Laws.{next_steps_are_allowed}
 use Rattle.driven_laws.specs.Laws.{PlainRunsAreBuilt, PlainStepsAreBuilt}

@@ -42,6 +42,7 @@ use Rattle.coherence_model.specs.Snoops.{Snoop, buffered_snoops, host_owed, snoo
 use Rattle.coherence_model.specs.Tasks.{Purpose, Task}
 use Rattle.coherence_model.specs.Traces.{device, events_of}
 use Rattle.coherence_model.specs.Transactions.{open_at}
+use Rattle.coherence_model.proofs.OwnRuns.{events_of_run}
 use Rattle.coherence_lemmas.proofs.Allowed.{allowed_parts}
 use Rattle.coherence_lemmas.proofs.DeviceActs.{v3_serve-inv, v4_clean-inv, v5_start-inv, v6_evict-inv, v7_snoop-inv, v8_finish-inv, v9_return-inv}
 use Rattle.coherence_lemmas.proofs.HostActs.{h10_return-inv, h7_conflict-inv, h8_write_back-inv, h9_answer-inv, h9_answer_block-inv}
@@ -50,7 +51,8 @@ use Rattle.coherence_lemmas.proofs.Options.{and_then_some}
 use Rattle.coherence_lemmas.proofs.Rows.{device_row, device_take-inv, host_row, host_take-inv}
 use Rattle.coherence_lemmas.proofs.TakesSendNothing.{IsSilent, device_takes_silent, host_takes_silent}
 use Rattle.entry_laws.proofs.Laws.{buffered_messages_fit, tasks_are_named}
-use Rattle.machine.specs.Built.{grants_read, is_built, is_built_after, is_built_device_return, is_built_host_return, is_built_operation, is_whole}
+use Rattle.machine.specs.Built.{grants_read, is_built, is_built_after, is_built_device_return, is_built_host_return, is_built_operation}
+use Rattle.cxl_message.specs.Events.{is_whole}
 use Rattle.step_laws.proofs.Counts.{Each, each_find, each_from_all}
 use Rattle.driven_laws.proofs.PlainDevice.{no_eviction, no_reservations, tasks_read}
 use Rattle.driven_laws.proofs.PlainEvents.{ArePlain, IsPlainEvent, IsPlainOut, equal_plain, flight_plain, is_plain_cause, is_plain_message, is_read_op, no_snoops, no_writes, owed_none, own_plain, plain_is_built, requests_plain}
@@ -258,7 +260,7 @@ line_found setup opening t run h tag r found =
     let held = buffered_requests h (events_of device t) in
     let takeable = λ (m : Message). take_fits setup device h m && channel_eq (channel_of m) Channel.Req in
     let chain = and_then_some request_in (message_with tag held) r found in
-    let fits = (each_find (λ m. takeable m ≡ true) (has_tag tag) held (each_from_all takeable held (buffered_messages_fit setup opening t run h).0) chain.x chain.found).0 in
+    let fits = (each_find (λ m. takeable m ≡ true) (has_tag tag) held (each_from_all takeable held (buffered_messages_fit setup opening (events_of device t) (events_of_run setup opening device t run) h).0) chain.x chain.found).0 in
     request_line setup chain.x r (and_parts _ _ (and_parts _ _ fits).0).1 chain.same
 
 -- the device evicts nothing
@@ -303,7 +305,7 @@ device_act_plain setup opening t roomy run plain (Act.Snoop h line) w fits is =
     let mine = events_of device t in
     let D = directory setup mine in
     let by = v7_snoop-inv h line.0 (D.task line.0) D mine w is in
-    let task_host = named_zero setup.hosts by.t.host roomy.hosts (tasks_are_named setup opening t run line.0 by.t by.found).0 in
+    let task_host = named_zero setup.hosts by.t.host roomy.hosts (tasks_are_named setup opening (events_of device t) (events_of_run setup opening device t run) line.0 by.t by.found).0 in
     let asked_host = named_zero setup.hosts h roomy.hosts (and_parts (nat_lt h setup.hosts) (line_exists setup line) fits).0 in
     absurd (false≢true (sym (own_not_asked by.t.purpose D line.0 by.t h (tasks_read setup mine plain line.0 by.t by.found) (task_host ∙ sym asked_host)) ∙ by.to_ask))
 device_act_plain setup opening t roomy run plain (Act.Finish line) w fits is =
@@ -311,7 +313,7 @@ device_act_plain setup opening t roomy run plain (Act.Finish line) w fits is =
     let D = directory setup mine in
     let by = v8_finish-inv setup opening line.0 (D.task line.0) D mine w is in
     let reads = tasks_read setup mine plain line.0 by.t by.found in
-    let task_host = named_zero setup.hosts by.t.host roomy.hosts (tasks_are_named setup opening t run line.0 by.t by.found).0 in
+    let task_host = named_zero setup.hosts by.t.host roomy.hosts (tasks_are_named setup opening (events_of device t) (events_of_run setup opening device t run) line.0 by.t by.found).0 in
     record {
       plain = refl;
       built = ap (λ (o : Option Task). option_map_or (λ t. grants_read t.purpose) o false) by.found ∙ reads;

@@ -24,7 +24,7 @@ use Rattle.entry_laws.proofs.Entries.{count_absent, count_filter}
 use Rattle.entry_laws.proofs.Laws.{entries_are_exact, entries_are_once}
 use Rattle.step_laws.proofs.Counts.{Each, count_by-append, count_by-cons, count_by-one}
 use Rattle.step_laws.proofs.HeldWays.{ways_exist}
-use Rattle.step_laws.proofs.OwnRuns.{own_run}
+use Rattle.coherence_model.proofs.OwnRuns.{events_of_run}
 
 -- ---- lists of different numbers
 
@@ -159,7 +159,7 @@ pub has_way :
     → lacks_way setup a (ways setup (events_of h t)) ≡ false
 has_way setup opening h t a run enough less =
     let held = ways setup (events_of h t) in
-    let exist = ways_exist setup opening h (events_of h t) (own_run setup opening h t run) in
+    let exist = ways_exist setup opening h (events_of h t) (events_of_run setup opening h t run) in
     way_by (is_in a held) setup.ways (length held)
     (λ new. let few = fewer setup.lines a held less new (below_from setup.lines held exist) (ways_once setup (events_of h t)) in omega arith)
 
@@ -176,7 +176,7 @@ pub has_free :
     → 1 ≤ free_entries setup (events_of device t)
 has_free setup opening t a run enough none less without =
     let mine = events_of device t in
-    let exact = entries_are_exact setup opening t run in
+    let exact = entries_are_exact setup opening (events_of device t) (events_of_run setup opening device t run) in
     let few = fewer setup.lines a (directory setup mine).entries less (exact a ∙ and_right (nat_lt a setup.lines) _ without)
-    (λ c there. ltb-true c setup.lines (and_parts (nat_lt c setup.lines) _ (sym (exact c) ∙ there)).0) (entries_are_once setup opening t run) in
+    (λ c there. ltb-true c setup.lines (and_parts (nat_lt c setup.lines) _ (sym (exact c) ∙ there)).0) (entries_are_once setup opening (events_of device t) (events_of_run setup opening device t run)) in
     free_by setup.entries (length (directory setup mine).entries) (reservation_count setup mine) (omega arith) none

@@ -7,7 +7,7 @@ use Rattle.cxl_message.specs.Formed.{place_exists}
 use Rattle.cxl_message.specs.Script.{ScriptValue}
 use Rattle.cxl_message.specs.Setup.{IsWithinLimits}
 use Rattle.coherence_model.specs.Driven.{operation_count}
-use Rattle.machine.specs.Built.{is_whole}
+use Rattle.cxl_message.specs.Events.{is_whole}
 
 -- whether an operation's line is below so many, and a Word's place is one of the eight (own rule)
 abbrev pub is_placed : ℕ → Op → Bool

@@ -1,4 +1,4 @@
-// Laws of the traces that driving a script comes to, whichever choices are picked.
+//! Laws of the traces that driving a script comes to, whichever choices are picked.
 #![tactic(auto)]
 
 ghost use Rattle.driven_laws.specs.Laws.{ChoicesStand, DrivenIsCommitted, DrivingEnds, DrivingReaches, EachIsCommitted, PlainChoicesAreBuilt, PlainOffersAreChoices, PlainRunsAreBuilt, PlainStepsAreBuilt, ReachedAreRuns, ReachedAreShort, WayBegins, WayEnds, WayGoesOn};

@@ -6,8 +6,7 @@ use Rattle.std.proofs.lemmas.Bool.{and_from, and_parts, cases_eq, eqb-true, fals
 use Rattle.cxl_message.specs.declared.opcodes.Span.{Span}
 use Rattle.cxl_message.specs.Codes.{span_len}
 use Rattle.cxl_message.specs.Lists.{below, is_in}
-use Rattle.cxl_message.specs.Spans.{covers, lines_of}
-use Rattle.coherence_model.specs.Directory.{aligned}
+use Rattle.cxl_message.specs.Spans.{aligned, covers, lines_of}
 
 -- ---- which lines a block has
 

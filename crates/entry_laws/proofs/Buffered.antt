@@ -21,9 +21,12 @@ use Rattle.coherence_model.specs.Buffers.{buffered_requests, buffered_writes, me
 use Rattle.coherence_model.specs.Fitting.{goes_to, is_addressed, message_fits, take_fits}
 use Rattle.coherence_model.specs.Traces.{device}
 use Rattle.coherence_model.specs.Words.{with_last}
-use Rattle.coherence_lemmas.proofs.Codes.{same-channel_eq}
+use Rattle.coherence_model.specs.OwnRuns.{IsOwnRun}
+use Rattle.cxl_message.specs.declared.identifiers.Bytes64.{Bytes64}
+use Rattle.cxl_message.specs.declared.identifiers.Line.{Line}
+use Rattle.cxl_message.proofs.SameNames.{same-channel_eq}
 use Rattle.entry_laws.proofs.DeviceRows.{DeviceRow, FoundRequest, TakenMessage}
-use Rattle.entry_laws.proofs.OwnRuns.{DeviceRun}
+use Rattle.entry_laws.proofs.OwnRuns.{device_event}
 
 -- ---- how a buffer changes
 
@@ -191,20 +194,22 @@ use_keeps_tags tag ms old k = let less = count_without (has_tag k) tag ms in let
 none_have_tags : HasDistinctTags []
 none_have_tags k = omega arith
 
-pub requests_have_distinct_tags : (setup : Configuration) (mine : List Event) → DeviceRun setup mine → (h : ℕ) → HasDistinctTags (buffered_requests h mine)
-requests_have_distinct_tags setup [] run h = none_have_tags
-requests_have_distinct_tags setup (e ∷ past) run h =
-    let old = requests_have_distinct_tags setup past run.0 h in
+pub requests_have_distinct_tags : (setup : Configuration) (opening : List (Line × Bytes64)) (mine : List Event) → IsOwnRun setup opening device mine → (h : ℕ) → HasDistinctTags (buffered_requests h mine)
+requests_have_distinct_tags setup opening [] run h = none_have_tags
+requests_have_distinct_tags setup opening (e ∷ past) run h =
+    let own = device_event setup opening e past run in
+    let old = requests_have_distinct_tags setup opening past own.0 h in
     requests_step HasDistinctTags setup h e.cause e.sends past
     (λ m tag own on taken. take_keeps_tags m tag (buffered_requests h past) own taken.free old) (λ tag. use_keeps_tags tag (buffered_requests h past) old) old
-    run.1
+    own.1
 
-pub writes_have_distinct_tags : (setup : Configuration) (mine : List Event) → DeviceRun setup mine → (h : ℕ) → HasDistinctTags (buffered_writes h mine)
-writes_have_distinct_tags setup [] run h = none_have_tags
-writes_have_distinct_tags setup (e ∷ past) run h =
-    let old = writes_have_distinct_tags setup past run.0 h in
+pub writes_have_distinct_tags : (setup : Configuration) (opening : List (Line × Bytes64)) (mine : List Event) → IsOwnRun setup opening device mine → (h : ℕ) → HasDistinctTags (buffered_writes h mine)
+writes_have_distinct_tags setup opening [] run h = none_have_tags
+writes_have_distinct_tags setup opening (e ∷ past) run h =
+    let own = device_event setup opening e past run in
+    let old = writes_have_distinct_tags setup opening past own.0 h in
     writes_step HasDistinctTags setup h e.cause e.sends past
-    (λ m tag own on taken. take_keeps_tags m tag (buffered_writes h past) own taken.free old) (λ tag. use_keeps_tags tag (buffered_writes h past) old) old run.1
+    (λ m tag own on taken. take_keeps_tags m tag (buffered_writes h past) own taken.free old) (λ tag. use_keeps_tags tag (buffered_writes h past) old) old own.1
 
 -- ---- a buffered message is one that the device takes from that channel
 
@@ -234,21 +239,23 @@ all_without p tag (m ∷ ms) h =
     all_chosen p (has_tag tag m) m ms (without_tag tag ms) parts.0 parts.1 (all_without p tag ms parts.1)
 
 pub requests_are_taken :
-    (setup : Configuration) (mine : List Event) → DeviceRun setup mine → (h : ℕ) → AreTakenOn setup h Channel.Req (buffered_requests h mine)
-requests_are_taken setup [] run h = refl
-requests_are_taken setup (e ∷ past) run h =
-    let old = requests_are_taken setup past run.0 h in
+    (setup : Configuration) (opening : List (Line × Bytes64)) (mine : List Event) → IsOwnRun setup opening device mine → (h : ℕ) → AreTakenOn setup h Channel.Req (buffered_requests h mine)
+requests_are_taken setup opening [] run h = refl
+requests_are_taken setup opening (e ∷ past) run h =
+    let own = device_event setup opening e past run in
+    let old = requests_are_taken setup opening past own.0 h in
     requests_step (AreTakenOn setup h Channel.Req) setup h e.cause e.sends past
     (λ m tag own on taken. take_keeps_fit setup h Channel.Req m (buffered_requests h past) taken.fits on old)
-    (λ tag. all_without (is_taken_on setup h Channel.Req) tag (buffered_requests h past) old) old run.1
+    (λ tag. all_without (is_taken_on setup h Channel.Req) tag (buffered_requests h past) old) old own.1
 
-pub writes_are_taken : (setup : Configuration) (mine : List Event) → DeviceRun setup mine → (h : ℕ) → AreTakenOn setup h Channel.Rwd (buffered_writes h mine)
-writes_are_taken setup [] run h = refl
-writes_are_taken setup (e ∷ past) run h =
-    let old = writes_are_taken setup past run.0 h in
+pub writes_are_taken : (setup : Configuration) (opening : List (Line × Bytes64)) (mine : List Event) → IsOwnRun setup opening device mine → (h : ℕ) → AreTakenOn setup h Channel.Rwd (buffered_writes h mine)
+writes_are_taken setup opening [] run h = refl
+writes_are_taken setup opening (e ∷ past) run h =
+    let own = device_event setup opening e past run in
+    let old = writes_are_taken setup opening past own.0 h in
     writes_step (AreTakenOn setup h Channel.Rwd) setup h e.cause e.sends past
     (λ m tag own on taken. take_keeps_fit setup h Channel.Rwd m (buffered_writes h past) taken.fits on old)
-    (λ tag. all_without (is_taken_on setup h Channel.Rwd) tag (buffered_writes h past) old) old run.1
+    (λ tag. all_without (is_taken_on setup h Channel.Rwd) tag (buffered_writes h past) old) old own.1
 
 found_chosen :
     (p q : Message → Bool) (y x : Message) (rest : Option Message) (b : Bool) → q y ≡ true → cond b (Some y) rest ≡ Some x → (rest ≡ Some x → q x ≡ true)

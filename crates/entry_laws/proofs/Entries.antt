@@ -10,8 +10,8 @@ use Rattle.cxl_message.specs.declared.states.Listing.{Listing}
 use Rattle.cxl_message.specs.Codes.{listing_code, span_len}
 use Rattle.cxl_message.specs.Lists.{below, is_in}
 use Rattle.cxl_message.specs.Setup.{Configuration}
-use Rattle.cxl_message.specs.Spans.{covers}
-use Rattle.coherence_model.specs.Directory.{Directory, aligned, block_around, has_entry, is_busy, is_listed, may_evict, may_evict_block, victim_block}
+use Rattle.cxl_message.specs.Spans.{aligned, covers}
+use Rattle.coherence_model.specs.Directory.{Directory, block_around, has_entry, is_busy, is_listed, may_evict, may_evict_block, victim_block}
 use Rattle.coherence_model.specs.DirectoryChanges.{with_entries_kept, with_listing}
 use Rattle.entry_laws.proofs.Blocks.{aligned_four, aligned_one, aligned_two, all_lines, any_or, covers_from, covers_one, in_filter, some_lines}
 use Rattle.entry_laws.proofs.Tasks.{IsFree, TasksKept, busy_from}

@@ -17,10 +17,14 @@ use Rattle.coherence_model.specs.Buffers.{buffered_requests, buffered_writes, me
 use Rattle.coherence_model.specs.Directory.{empty_directory, has_entry, is_listed}
 use Rattle.coherence_model.specs.DirectoryChanges.{directory, directory_after}
 use Rattle.coherence_model.specs.SentSnoops.{SentSnoop, sent_snoop_after, sent_snoop_at}
+use Rattle.coherence_model.specs.OwnRuns.{IsOwnRun}
+use Rattle.cxl_message.specs.declared.identifiers.Bytes64.{Bytes64}
+use Rattle.cxl_message.specs.declared.identifiers.Line.{Line}
+use Rattle.coherence_model.specs.Traces.{device}
 use Rattle.entry_laws.proofs.Buffered.{AreTakenOn, request_line_exists, requests_are_taken}
 use Rattle.entry_laws.proofs.DeviceRows.{DeviceRow}
 use Rattle.entry_laws.proofs.DirectorySteps.{DirectoryKept, answer_step, clean_step, serve_step}
-use Rattle.entry_laws.proofs.OwnRuns.{DeviceRun}
+use Rattle.entry_laws.proofs.OwnRuns.{device_event}
 use Rattle.entry_laws.proofs.TaskSteps.{evict_step, finish_step, snoop_step, start_step}
 
 -- a message that is no answer changes no snoop
@@ -92,7 +96,8 @@ directory_step setup (Cause.Act (Act.DeviceReturn h c)) sends mine named kept ro
 
 -- what is kept holds after every list of the device's own events
 pub directory_is_kept :
-    (setup : Configuration) (mine : List Event) → DeviceRun setup mine → DirectoryKept setup (directory setup mine) (λ g a. sent_snoop_at g a mine)
-directory_is_kept setup [] run = kept_at_start setup
-directory_is_kept setup (e ∷ past) run =
-    directory_step setup e.cause e.sends past (requests_are_taken setup past run.0) (directory_is_kept setup past run.0) run.1
+    (setup : Configuration) (opening : List (Line × Bytes64)) (mine : List Event) → IsOwnRun setup opening device mine → DirectoryKept setup (directory setup mine) (λ g a. sent_snoop_at g a mine)
+directory_is_kept setup opening [] run = kept_at_start setup
+directory_is_kept setup opening (e ∷ past) run =
+    let own = device_event setup opening e past run in
+    directory_step setup e.cause e.sends past (requests_are_taken setup opening past own.0) (directory_is_kept setup opening past own.0) own.1

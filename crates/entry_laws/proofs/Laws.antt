@@ -22,13 +22,13 @@ use Rattle.coherence_model.specs.SentSnoops.{is_asked}
 use Rattle.coherence_model.specs.Tasks.{Task, is_eviction, task_covers}
 use Rattle.coherence_model.specs.Traces.{device, events_of}
 use Rattle.coherence_model.specs.Words.{one_if}
+use Rattle.coherence_model.proofs.OwnRuns.{events_of_run}
 use Rattle.entry_laws.specs.Laws.{BufferedMessagesFit, BusyLinesAreCovered, EntriesAreExact, EntriesAreKept, EntriesAreOnce, EntriesSuffice, EvictionsHaveRequests, OneTaskEvicts, RequestTagsAreDistinct, RoomsHaveRequests, SnoopsHaveTasks, TasksAreApart, TasksArePlaced, VictimsStand, WriteTagsAreDistinct, is_in_progress, is_waiting, TasksAreNamed, WritesGoOn, TasksGoOn, RequestsGoOn, task_may_go_on}
 use Rattle.entry_laws.proofs.Blocks.{any_at, any_below, below_all, some_lines}
 use Rattle.entry_laws.proofs.Buffered.{requests_are_taken, requests_have_distinct_tags, writes_are_taken, writes_have_distinct_tags}
 use Rattle.entry_laws.proofs.Counts.{at_most_one_below, count_at_least_one, count_none_below}
 use Rattle.entry_laws.proofs.Entries.{EntriesKept}
 use Rattle.entry_laws.proofs.Kept.{directory_is_kept}
-use Rattle.entry_laws.proofs.OwnRuns.{device_run}
 use Rattle.entry_laws.proofs.Progress.{requests_go_on, task_goes_on, writes_may_be_served}
 use Rattle.entry_laws.proofs.RoomSteps.{rooms_are_kept}
 use Rattle.entry_laws.proofs.Rooms.{Evicting, RoomsKept, Waiting, evicts_parts}
@@ -40,7 +40,7 @@ use Rattle.entry_laws.proofs.Victims.{victim_there}
 -- ---- entries
 
 pub entries_suffice_after : EntriesSuffice
-entries_suffice_after setup opening t run = le-leb _ _ (entries_do_suffice setup (events_of device t) (device_run setup opening t run))
+entries_suffice_after setup opening mine own = le-leb _ _ (entries_do_suffice setup opening mine own)
 
 same_bool : (x y : Bool) → (x ≡ true → y ≡ true) → (y ≡ true → x ≡ true) → x ≡ y
 same_bool true true h k = refl
@@ -55,23 +55,23 @@ exact_entries setup D kept a =
     (λ has. (let parts = and_parts (nat_lt a setup.lines) (has_entry setup D a) has in kept.all a (ltb-true _ _ parts.0) parts.1))
 
 pub entries_are_exact : EntriesAreExact
-entries_are_exact setup opening t run =
-    exact_entries setup (directory setup (events_of device t)) (directory_is_kept setup (events_of device t) (device_run setup opening t run)).entries
+entries_are_exact setup opening mine own =
+    exact_entries setup (directory setup mine) (directory_is_kept setup opening mine own).entries
 
 pub entries_are_once : EntriesAreOnce
-entries_are_once setup opening t run = (directory_is_kept setup (events_of device t) (device_run setup opening t run)).entries.once
+entries_are_once setup opening mine own = (directory_is_kept setup opening mine own).entries.once
 
 -- ---- tasks
 
 pub tasks_are_placed : TasksArePlaced
-tasks_are_placed setup opening t run = (directory_is_kept setup (events_of device t) (device_run setup opening t run)).tasks.placed
+tasks_are_placed setup opening mine own = (directory_is_kept setup opening mine own).tasks.placed
 
 pub tasks_are_apart : TasksAreApart
-tasks_are_apart setup opening t run = (directory_is_kept setup (events_of device t) (device_run setup opening t run)).tasks.apart
+tasks_are_apart setup opening mine own = (directory_is_kept setup opening mine own).tasks.apart
 
 pub tasks_are_named : TasksAreNamed
-tasks_are_named setup opening t run a task is =
-    let shape = tasks_are_shaped setup (events_of device t) (device_run setup opening t run) a task is in (shape.host, shape.tag, shape.span)
+tasks_are_named setup opening mine own a task is =
+    let shape = tasks_are_shaped setup opening mine own a task is in (shape.host, shape.tag, shape.span)
 
 -- a task's first line exists
 first_exists : (setup : Configuration) (task : ℕ → Option Task) → TasksKept setup.lines task → (a : ℕ) (t : Task) → task a ≡ Some t → a < setup.lines
@@ -94,8 +94,8 @@ busy_is_covered setup D kept a =
     ))
 
 pub busy_lines_are_covered : BusyLinesAreCovered
-busy_lines_are_covered setup opening t run =
-    busy_is_covered setup (directory setup (events_of device t)) (directory_is_kept setup (events_of device t) (device_run setup opening t run)).tasks
+busy_lines_are_covered setup opening mine own =
+    busy_is_covered setup (directory setup mine) (directory_is_kept setup opening mine own).tasks
 
 -- ---- evictions and reservations
 
@@ -111,9 +111,9 @@ eviction_waits :
 eviction_waits setup mine kept a t is evicts = kept.buffered t.host t.tag (not_none _ (kept.progress a t is evicts))
 
 pub evictions_have_requests : EvictionsHaveRequests
-evictions_have_requests setup opening t run a task is evicts =
-    waiting_is task.host task.tag (events_of device t)
-    (eviction_waits setup (events_of device t) (rooms_are_kept setup (events_of device t) (device_run setup opening t run)) a task is evicts)
+evictions_have_requests setup opening mine own a task is evicts =
+    waiting_is task.host task.tag mine
+    (eviction_waits setup mine (rooms_are_kept setup opening mine own) a task is evicts)
 
 waits_or_none :
     (setup : Configuration) (mine : List Event) → RoomsKept (directory setup mine).task (λ h tag. request_room setup h tag mine) (λ h. buffered_requests h mine)
@@ -122,9 +122,9 @@ waits_or_none setup mine kept h tag true is = refl
 waits_or_none setup mine kept h tag false is = waiting_is h tag mine (kept.buffered h tag is)
 
 pub rooms_have_requests : RoomsHaveRequests
-rooms_have_requests setup opening t run h tag =
-    waits_or_none setup (events_of device t) (rooms_are_kept setup (events_of device t) (device_run setup opening t run)) h tag
-    (is_no_eviction (request_room setup h tag (events_of device t))) refl
+rooms_have_requests setup opening mine own h tag =
+    waits_or_none setup mine (rooms_are_kept setup opening mine own) h tag
+    (is_no_eviction (request_room setup h tag mine)) refl
 
 evicting_by :
     (task : ℕ → Option Task) (h tag a : ℕ) (found : Option Task) → task a ≡ found → option_map_or (evicts_for h tag) found false ≡ true
@@ -173,11 +173,10 @@ one_evicts setup D room buffer tasks kept h tag Room.Reservation is =
     none_evict setup D room buffer kept h tag (λ progress. no_is_other Room.Reservation refl (sym is ∙ progress))
 
 pub one_task_evicts : OneTaskEvicts
-one_task_evicts setup opening t run h tag =
-    let own = device_run setup opening t run in
-    one_evicts setup (directory setup (events_of device t)) (λ g k. request_room setup g k (events_of device t)) (λ g. buffered_requests g (events_of device t))
-    (directory_is_kept setup (events_of device t) own).tasks (rooms_are_kept setup (events_of device t) own) h tag
-    (request_room setup h tag (events_of device t)) refl
+one_task_evicts setup opening mine own h tag =
+    one_evicts setup (directory setup mine) (λ g k. request_room setup g k mine) (λ g. buffered_requests g mine)
+    (directory_is_kept setup opening mine own).tasks (rooms_are_kept setup opening mine own) h tag
+    (request_room setup h tag mine) refl
 
 -- ---- the model's own fact
 
@@ -207,23 +206,24 @@ request_there setup mine kept a (Some t) is = has_request mine t (is_eviction t.
 
 pub entries_are_kept_after : EntriesAreKept
 entries_are_kept_after setup opening t run =
-    let own = device_run setup opening t run in
-    and_from _ _ (entries_suffice_after setup opening t run)
-    (below_all (line_tasks_are_kept setup (directory setup (events_of device t)) (events_of device t)) setup.lines (λ a exists.
-    and_from _ _ (le-leb _ _ (few_cover setup (directory setup (events_of device t)) (directory_is_kept setup (events_of device t) own).tasks a))
-    (request_there setup (events_of device t) (rooms_are_kept setup (events_of device t) own) a ((directory setup (events_of device t)).task a) refl)))
+    let mine : List Event = events_of device t in
+    let own = events_of_run setup opening device t run in
+    and_from _ _ (entries_suffice_after setup opening mine own)
+    (below_all (line_tasks_are_kept setup (directory setup mine) mine) setup.lines (λ a exists.
+    and_from _ _ (le-leb _ _ (few_cover setup (directory setup mine) (directory_is_kept setup opening mine own).tasks a))
+    (request_there setup mine (rooms_are_kept setup opening mine own) a ((directory setup mine).task a) refl)))
 
 -- ---- buffered messages
 
 pub request_tags_are_distinct : RequestTagsAreDistinct
-request_tags_are_distinct setup opening t run = requests_have_distinct_tags setup (events_of device t) (device_run setup opening t run)
+request_tags_are_distinct setup opening mine own = requests_have_distinct_tags setup opening mine own
 
 pub write_tags_are_distinct : WriteTagsAreDistinct
-write_tags_are_distinct setup opening t run = writes_have_distinct_tags setup (events_of device t) (device_run setup opening t run)
+write_tags_are_distinct setup opening mine own = writes_have_distinct_tags setup opening mine own
 
 pub buffered_messages_fit : BufferedMessagesFit
-buffered_messages_fit setup opening t run h =
-    let own = device_run setup opening t run in (requests_are_taken setup (events_of device t) own h, writes_are_taken setup (events_of device t) own h)
+buffered_messages_fit setup opening mine own h =
+    (requests_are_taken setup opening mine own h, writes_are_taken setup opening mine own h)
 
 -- ---- snoops and victims
 
@@ -232,8 +232,8 @@ all_covered a t [] h = refl
 all_covered a t (b ∷ lines) h = and_from _ _ (h b (or_left _ _ (eq-eqb b b refl))) (all_covered a t lines (λ c there. h c (or_right _ _ there)))
 
 pub snoops_have_tasks : SnoopsHaveTasks
-snoops_have_tasks setup opening t run h a q asked =
-    let kept = (directory_is_kept setup (events_of device t) (device_run setup opening t run)).snoops h a q asked in
+snoops_have_tasks setup opening mine own h a q asked =
+    let kept = (directory_is_kept setup opening mine own).snoops h a q asked in
     record {
       host = kept.host;
       task = kept.t;
@@ -246,15 +246,15 @@ snoops_have_tasks setup opening t run h a q asked =
     }
 
 pub victims_stand : VictimsStand
-victims_stand setup opening limits t run full none idle =
-    victim_there setup (events_of device t) (directory_is_kept setup (events_of device t) (device_run setup opening t run)).entries limits.entries.0 full none
+victims_stand setup opening limits mine own full none idle =
+    victim_there setup mine (directory_is_kept setup opening mine own).entries limits.entries.0 full none
     idle
 
 -- ---- how the device goes on
 
 pub writes_go_on : WritesGoOn
-writes_go_on setup opening t run h =
-    writes_may_be_served setup opening h (events_of device t) (writes_are_taken setup (events_of device t) (device_run setup opening t run) h)
+writes_go_on setup opening mine own h =
+    writes_may_be_served setup opening h mine (writes_are_taken setup opening mine own h)
 
 some_task_goes_on :
     (setup : Configuration) (opening : List (Line × Bytes64)) (mine : List Event) (a : ℕ) (found : Option Task) → (directory setup mine).task a ≡ found →
@@ -264,16 +264,15 @@ some_task_goes_on setup opening mine a None is some quiet = absurd (false≢true
 some_task_goes_on setup opening mine a (Some t) is some quiet = task_goes_on setup opening mine a t is quiet
 
 pub tasks_go_on : TasksGoOn
-tasks_go_on setup opening t run a some quiet =
-    some_task_goes_on setup opening (events_of device t) a ((directory setup (events_of device t)).task a) refl some quiet
+tasks_go_on setup opening mine own a some quiet =
+    some_task_goes_on setup opening mine a ((directory setup mine).task a) refl some quiet
 
 pub some_request_goes_on : RequestsGoOn
-some_request_goes_on setup opening limits t run idle some =
-    let own = device_run setup opening t run in
-    requests_go_on setup opening (events_of device t) (record {
-      directory_kept = directory_is_kept setup (events_of device t) own;
-      rooms = rooms_are_kept setup (events_of device t) own;
-      taken = requests_are_taken setup (events_of device t) own;
+some_request_goes_on setup opening limits mine own idle some =
+    requests_go_on setup opening mine (record {
+      directory_kept = directory_is_kept setup opening mine own;
+      rooms = rooms_are_kept setup opening mine own;
+      taken = requests_are_taken setup opening mine own;
       some_entry = limits.entries.0;
       idle = idle;
     }) some

@@ -21,10 +21,14 @@ use Rattle.coherence_model.specs.Flight.{takes_on}
 use Rattle.coherence_model.specs.Room.{Room, is_no_eviction, request_room, room_after, room_after_finish}
 use Rattle.coherence_model.specs.Tasks.{Task, request_task}
 use Rattle.coherence_model.specs.Words.{with_last}
+use Rattle.coherence_model.specs.OwnRuns.{IsOwnRun}
+use Rattle.cxl_message.specs.declared.identifiers.Bytes64.{Bytes64}
+use Rattle.cxl_message.specs.declared.identifiers.Line.{Line}
+use Rattle.coherence_model.specs.Traces.{device}
 use Rattle.entry_laws.proofs.Blocks.{covers_first}
 use Rattle.entry_laws.proofs.DeviceRows.{DeviceRow, EvictRow, FinishRow, StartRow}
 use Rattle.entry_laws.proofs.Entries.{victim_evictable}
-use Rattle.entry_laws.proofs.OwnRuns.{DeviceRun}
+use Rattle.entry_laws.proofs.OwnRuns.{device_event}
 use Rattle.entry_laws.proofs.Rooms.{RoomsKept, Waiting, clean_rooms, evict_rooms, finish_rooms, is_no_purpose, start_rooms, waits_on}
 use Rattle.entry_laws.proofs.Tasks.{idle_has_no_task}
 
@@ -164,7 +168,9 @@ no_rooms = record {
 
 -- the rooms are kept by every list of the device's own events
 pub rooms_are_kept :
-    (setup : Configuration) (mine : List Event) → DeviceRun setup mine
+    (setup : Configuration) (opening : List (Line × Bytes64)) (mine : List Event) → IsOwnRun setup opening device mine
     → RoomsKept (directory setup mine).task (λ h tag. request_room setup h tag mine) (λ h. buffered_requests h mine)
-rooms_are_kept setup [] run = no_rooms
-rooms_are_kept setup (e ∷ past) run = rooms_step setup e.cause e.sends past (rooms_are_kept setup past run.0) run.1
+rooms_are_kept setup opening [] run = no_rooms
+rooms_are_kept setup opening (e ∷ past) run =
+    let own = device_event setup opening e past run in
+    rooms_step setup e.cause e.sends past (rooms_are_kept setup opening past own.0) own.1

@@ -23,6 +23,10 @@ use Rattle.coherence_model.specs.DirectoryChanges.{directory, directory_after, d
 use Rattle.coherence_model.specs.Room.{Room, evicts_for, free_entries, is_reservation, request_room, room_after, room_after_finish}
 use Rattle.coherence_model.specs.SentSnoops.{is_asked, sent_snoop_at}
 use Rattle.coherence_model.specs.Tasks.{Purpose, Task, is_eviction}
+use Rattle.coherence_model.specs.OwnRuns.{IsOwnRun}
+use Rattle.cxl_message.specs.declared.identifiers.Bytes64.{Bytes64}
+use Rattle.cxl_message.specs.declared.identifiers.Line.{Line}
+use Rattle.coherence_model.specs.Traces.{device}
 use Rattle.entry_laws.proofs.Blocks.{all_below, all_lines, covers_first, some_lines}
 use Rattle.entry_laws.proofs.Buffered.{AreTakenOn, request_line_exists, requests_are_taken}
 use Rattle.entry_laws.proofs.Counts.{filter_loses, filter_shorter, is_pair, no_pairs, pair_at_most_one, pair_count, pair_exists, pairs_at_least, pairs_at_most}
@@ -30,7 +34,7 @@ use Rattle.entry_laws.proofs.DeviceRows.{DeviceRow, FinishRow, StartRow}
 use Rattle.entry_laws.proofs.DirectorySteps.{DirectoryKept}
 use Rattle.entry_laws.proofs.Entries.{EntriesKept}
 use Rattle.entry_laws.proofs.Kept.{directory_is_kept}
-use Rattle.entry_laws.proofs.OwnRuns.{DeviceRun}
+use Rattle.entry_laws.proofs.OwnRuns.{device_event}
 use Rattle.entry_laws.proofs.Tasks.{TasksKept, busy_at_task, busy_without}
 
 -- the pairs of a host and a tag with a reservation
@@ -359,8 +363,9 @@ none_reserved setup = let none = no_pairs setup.hosts setup.tags in omega arith
 
 -- entries and reservations suffice after every list of the device's own events
 pub entries_do_suffice :
-    (setup : Configuration) (mine : List Event) → DeviceRun setup mine → Suffices setup (directory setup mine).entries (λ h tag. request_room setup h tag mine)
-entries_do_suffice setup [] run = none_reserved setup
-entries_do_suffice setup (e ∷ past) run =
-    suffice_step setup e.cause e.sends past (requests_are_taken setup past run.0) (directory_is_kept setup past run.0) (entries_do_suffice setup past run.0)
-    run.1
+    (setup : Configuration) (opening : List (Line × Bytes64)) (mine : List Event) → IsOwnRun setup opening device mine → Suffices setup (directory setup mine).entries (λ h tag. request_room setup h tag mine)
+entries_do_suffice setup opening [] run = none_reserved setup
+entries_do_suffice setup opening (e ∷ past) run =
+    let own = device_event setup opening e past run in
+    suffice_step setup e.cause e.sends past (requests_are_taken setup opening past own.0) (directory_is_kept setup opening past own.0) (entries_do_suffice setup opening past own.0)
+    own.1

@@ -16,8 +16,12 @@ use Rattle.coherence_model.specs.Directory.{Directory, victim_block}
 use Rattle.coherence_model.specs.DirectoryChanges.{directory, directory_after, directory_after_evict, directory_after_start, with_task}
 use Rattle.coherence_model.specs.Fitting.{is_host}
 use Rattle.coherence_model.specs.Tasks.{Task, eviction_task, is_eviction, request_task}
+use Rattle.coherence_model.specs.OwnRuns.{IsOwnRun}
+use Rattle.cxl_message.specs.declared.identifiers.Bytes64.{Bytes64}
+use Rattle.cxl_message.specs.declared.identifiers.Line.{Line}
+use Rattle.coherence_model.specs.Traces.{device}
 use Rattle.entry_laws.proofs.DeviceRows.{DeviceRow, StartRow}
-use Rattle.entry_laws.proofs.OwnRuns.{DeviceRun}
+use Rattle.entry_laws.proofs.OwnRuns.{device_event}
 use Rattle.entry_laws.proofs.RoomSteps.{clean_leaves_tasks, serve_leaves_tasks, take_leaves_tasks}
 use Rattle.entry_laws.proofs.Tasks.{changed_task, same_task}
 
@@ -81,6 +85,8 @@ shaped_step setup (Cause.Act (Act.Finish line)) sends mine old row = shaped_with
 shaped_step setup (Cause.Act (Act.DeviceReturn host c)) sends mine old row = old
 
 -- all tasks are, after every list of the device's own events
-pub tasks_are_shaped : (setup : Configuration) (mine : List Event) → DeviceRun setup mine → AreShaped setup (directory setup mine).task
-tasks_are_shaped setup [] run = λ a t is. absurd (none-some t is)
-tasks_are_shaped setup (e ∷ past) run = shaped_step setup e.cause e.sends past (tasks_are_shaped setup past run.0) run.1
+pub tasks_are_shaped : (setup : Configuration) (opening : List (Line × Bytes64)) (mine : List Event) → IsOwnRun setup opening device mine → AreShaped setup (directory setup mine).task
+tasks_are_shaped setup opening [] run = λ a t is. absurd (none-some t is)
+tasks_are_shaped setup opening (e ∷ past) run =
+    let own = device_event setup opening e past run in
+    shaped_step setup e.cause e.sends past (tasks_are_shaped setup opening past own.0) own.1

@@ -5,8 +5,8 @@ use Rattle.std.proofs.lemmas.Bool.{eqb-false, eqb-true, false≢true, or_cases, 
 use Rattle.std.proofs.lemmas.Option.{none-some}
 use Rattle.cxl_message.specs.declared.opcodes.Span.{Span}
 use Rattle.cxl_message.specs.Codes.{span_len}
-use Rattle.cxl_message.specs.Spans.{covers}
-use Rattle.coherence_model.specs.Directory.{Directory, aligned, is_busy}
+use Rattle.cxl_message.specs.Spans.{aligned, covers}
+use Rattle.coherence_model.specs.Directory.{Directory, is_busy}
 use Rattle.coherence_model.specs.DirectoryChanges.{with_task}
 use Rattle.coherence_model.specs.Tasks.{Task, task_covers}
 use Rattle.entry_laws.proofs.Blocks.{begins_at_four, begins_at_two, covers_first, covers_one}

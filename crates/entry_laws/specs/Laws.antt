@@ -1,4 +1,4 @@
--- Laws of what the device keeps after every run: entries, tasks, evictions and buffered messages, by the device's own events.
+-- Laws of what the device keeps: entries, tasks, evictions and buffered messages, over every list of its own events that its rules allow.
 use Rattle.std.specs.Prelude.{Bool, IsTrue, List, Some, count_by, false, is_some, length, nat_le, nat_lt, not, option_and_then, true, ℕ, ◌%◌, ◌&&◌, ◌+◌, ◌==◌, ◌||◌, ◌≡◌, ◌≢◌, ◌≤◌}
 use Rattle.std.specs.List.{list_all, list_any}
 use Rattle.std.specs.Option.{option_map_or}
@@ -23,23 +23,19 @@ use Rattle.coherence_model.specs.DirectoryChanges.{directory}
 use Rattle.coherence_model.specs.EntryFacts.{entries_are_kept, entries_suffice}
 use Rattle.coherence_model.specs.Fitting.{is_host, take_fits}
 use Rattle.coherence_model.specs.Next.{tag_or_zero}
+use Rattle.coherence_model.specs.OwnRuns.{ForEachDeviceRun, IsOwnRun}
 use Rattle.coherence_model.specs.Room.{Room, evicts_for, free_entries, is_no_eviction, request_room, reservation_count}
 use Rattle.coherence_model.specs.Runs.{IsRun}
 use Rattle.coherence_model.specs.SentSnoops.{SentSnoop, is_asked, sent_snoop_at}
 use Rattle.coherence_model.specs.Tasks.{Task, is_eviction, task_covers}
-use Rattle.coherence_model.specs.Traces.{device, events_of}
+use Rattle.coherence_model.specs.Traces.{device}
 use Rattle.coherence_model.specs.Words.{one_if}
-
--- a fact on the device's own events holds after every run
-abbrev pub AfterEachRun : (Configuration → List Event → Type 0) → Type 0
-AfterEachRun Fact =
-    (setup : Configuration) (opening : List (Line × Bytes64)) (t : List Event) → IsRun setup opening t → Fact setup (events_of device t)
 
 -- ---- entries
 
 -- entries and reservations together are at most the filter's entries
 abbrev pub EntriesSuffice : Type 0
-EntriesSuffice = AfterEachRun (λ setup mine. IsTrue (entries_suffice setup mine))
+EntriesSuffice = ForEachDeviceRun (λ setup mine. IsTrue (entries_suffice setup mine))
 
 -- entries and reservations suffice, no two tasks share a line, and the request of an eviction is buffered
 abbrev pub EntriesAreKept : Type 0
@@ -49,36 +45,36 @@ EntriesAreKept =
 -- the list of entries has exactly the lines that exist and have an entry
 abbrev pub EntriesAreExact : Type 0
 EntriesAreExact =
-    AfterEachRun (λ setup mine. (a : ℕ) → is_in a (directory setup mine).entries ≡ (nat_lt a setup.lines && has_entry setup (directory setup mine) a))
+    ForEachDeviceRun (λ setup mine. (a : ℕ) → is_in a (directory setup mine).entries ≡ (nat_lt a setup.lines && has_entry setup (directory setup mine) a))
 
 -- it has no line twice
 abbrev pub EntriesAreOnce : Type 0
-EntriesAreOnce = AfterEachRun (λ setup mine. (a : ℕ) → count_by (λ b. a == b) (directory setup mine).entries ≤ 1)
+EntriesAreOnce = ForEachDeviceRun (λ setup mine. (a : ℕ) → count_by (λ b. a == b) (directory setup mine).entries ≤ 1)
 
 -- ---- tasks
 
 -- a task's first line is a multiple of its span, and its lines exist
 abbrev pub TasksArePlaced : Type 0
 TasksArePlaced =
-    AfterEachRun (λ setup mine. (a : ℕ) (task : Task) → (directory setup mine).task a ≡ Some task
+    ForEachDeviceRun (λ setup mine. (a : ℕ) (task : Task) → (directory setup mine).task a ≡ Some task
     → (a % span_len task.span ≡ 0) × (a + span_len task.span ≤ setup.lines))
 
 -- the host and the tag of a task's request exist, and a task that isn't an eviction is over one line
 abbrev pub TasksAreNamed : Type 0
 TasksAreNamed =
-    AfterEachRun (λ setup mine. (a : ℕ) (task : Task) → (directory setup mine).task a ≡ Some task
+    ForEachDeviceRun (λ setup mine. (a : ℕ) (task : Task) → (directory setup mine).task a ≡ Some task
     → IsTrue (is_host setup task.host) × IsTrue (nat_lt task.tag setup.tags) × (is_eviction task.purpose ≡ false → task.span ≡ Span.One))
 
 -- two tasks that cover one line are the same
 abbrev pub TasksAreApart : Type 0
 TasksAreApart =
-    AfterEachRun (λ setup mine. (a b c : ℕ) (s t : Task) → (directory setup mine).task a ≡ Some s → (directory setup mine).task b ≡ Some t
+    ForEachDeviceRun (λ setup mine. (a b c : ℕ) (s t : Task) → (directory setup mine).task a ≡ Some s → (directory setup mine).task b ≡ Some t
     → IsTrue (covers a s.span c) → IsTrue (covers b t.span c) → a ≡ b)
 
 -- a line is Busy exactly where some task covers it
 abbrev pub BusyLinesAreCovered : Type 0
 BusyLinesAreCovered =
-    AfterEachRun (λ setup mine. (a : ℕ)
+    ForEachDeviceRun (λ setup mine. (a : ℕ)
     → is_busy (directory setup mine) a ≡ list_any (λ first. task_covers a first ((directory setup mine).task first)) (below setup.lines))
 
 -- ---- evictions and reservations
@@ -90,7 +86,7 @@ is_waiting h tag mine = option_map_or (λ r. asks_for_grant r.op) (option_and_th
 -- the request of an eviction is buffered
 abbrev pub EvictionsHaveRequests : Type 0
 EvictionsHaveRequests =
-    AfterEachRun (λ setup mine. (a : ℕ) (task : Task) → (directory setup mine).task a ≡ Some task → IsTrue (is_eviction task.purpose)
+    ForEachDeviceRun (λ setup mine. (a : ℕ) (task : Task) → (directory setup mine).task a ≡ Some task → IsTrue (is_eviction task.purpose)
     → IsTrue (is_waiting task.host task.tag mine))
 
 -- whether an eviction is in progress for a request (own rule)
@@ -105,21 +101,21 @@ evicting_count setup h tag mine = count_by (λ a. option_map_or (evicts_for h ta
 
 -- one task evicts for a request whose eviction is in progress, and none for any other
 abbrev pub OneTaskEvicts : Type 0
-OneTaskEvicts = AfterEachRun (λ setup mine. (h tag : ℕ) → evicting_count setup h tag mine ≡ one_if (is_in_progress (request_room setup h tag mine)))
+OneTaskEvicts = ForEachDeviceRun (λ setup mine. (h tag : ℕ) → evicting_count setup h tag mine ≡ one_if (is_in_progress (request_room setup h tag mine)))
 
 -- a request with an eviction in progress or a reservation is buffered
 abbrev pub RoomsHaveRequests : Type 0
-RoomsHaveRequests = AfterEachRun (λ setup mine. (h tag : ℕ) → IsTrue (is_no_eviction (request_room setup h tag mine) || is_waiting h tag mine))
+RoomsHaveRequests = ForEachDeviceRun (λ setup mine. (h tag : ℕ) → IsTrue (is_no_eviction (request_room setup h tag mine) || is_waiting h tag mine))
 
 -- ---- buffered messages
 
 -- at most one buffered Req message of a host has a tag
 abbrev pub RequestTagsAreDistinct : Type 0
-RequestTagsAreDistinct = AfterEachRun (λ setup mine. (h tag : ℕ) → count_by (has_tag tag) (buffered_requests h mine) ≤ 1)
+RequestTagsAreDistinct = ForEachDeviceRun (λ setup mine. (h tag : ℕ) → count_by (has_tag tag) (buffered_requests h mine) ≤ 1)
 
 -- and at most one buffered RwD message
 abbrev pub WriteTagsAreDistinct : Type 0
-WriteTagsAreDistinct = AfterEachRun (λ setup mine. (h tag : ℕ) → count_by (has_tag tag) (buffered_writes h mine) ≤ 1)
+WriteTagsAreDistinct = ForEachDeviceRun (λ setup mine. (h tag : ℕ) → count_by (has_tag tag) (buffered_writes h mine) ≤ 1)
 
 -- whether all messages are such as the device takes from channel c of host h: the host, the tags and the lines exist (own rule)
 abbrev pub are_takeable_from : Configuration → ℕ → Channel → List Message → Bool
@@ -128,7 +124,7 @@ are_takeable_from setup h c ms = list_all (λ m. take_fits setup device h m && c
 -- each buffered Req message is such a message of Req, and each buffered RwD message one of RwD
 abbrev pub BufferedMessagesFit : Type 0
 BufferedMessagesFit =
-    AfterEachRun (λ setup mine. (h : ℕ)
+    ForEachDeviceRun (λ setup mine. (h : ℕ)
     → IsTrue (are_takeable_from setup h Channel.Req (buffered_requests h mine)) × IsTrue (are_takeable_from setup h Channel.Rwd (buffered_writes h mine)))
 
 -- ---- snoops and victims
@@ -146,15 +142,15 @@ pub record IsOfTask (setup : Configuration) (D : Directory) (h a : ℕ) (q : Sen
 
 -- each snoop of which some line has no answer is a standing task's
 abbrev pub SnoopsHaveTasks : Type 0
-SnoopsHaveTasks = AfterEachRun (λ setup mine. (h a : ℕ) (q : SentSnoop) → sent_snoop_at h a mine ≡ Some q → IsOfTask setup (directory setup mine) h a q)
+SnoopsHaveTasks = ForEachDeviceRun (λ setup mine. (h a : ℕ) (q : SentSnoop) → sent_snoop_at h a mine ≡ Some q → IsOfTask setup (directory setup mine) h a q)
 
 -- where no entry is free, there is no reservation and no line is Busy, there is a victim block
 abbrev pub VictimsStand : Type 0
 VictimsStand =
-    (setup : Configuration) (opening : List (Line × Bytes64)) → IsWithinLimits setup → (t : List Event) → IsRun setup opening t
-    → free_entries setup (events_of device t) ≡ 0 → reservation_count setup (events_of device t) ≡ 0
-    → IsTrue (list_all (λ a. not (is_busy (directory setup (events_of device t)) a)) (below setup.lines))
-    → IsTrue (is_some (victim_block (directory setup (events_of device t))))
+    (setup : Configuration) (opening : List (Line × Bytes64)) → IsWithinLimits setup → (mine : List Event) → IsOwnRun setup opening device mine
+    → free_entries setup mine ≡ 0 → reservation_count setup mine ≡ 0
+    → IsTrue (list_all (λ a. not (is_busy (directory setup mine) a)) (below setup.lines))
+    → IsTrue (is_some (victim_block (directory setup mine)))
 
 -- ---- how the device goes on
 
@@ -175,8 +171,8 @@ request_may_go_on setup opening mine h m =
 -- each buffered RwD message may be served
 abbrev pub WritesGoOn : Type 0
 WritesGoOn =
-    (setup : Configuration) (opening : List (Line × Bytes64)) (t : List Event) → IsRun setup opening t → (h : ℕ)
-    → IsTrue (list_all (λ m. may_do setup opening (events_of device t) (Act.Serve h (named_tag m))) (buffered_writes h (events_of device t)))
+    (setup : Configuration) (opening : List (Line × Bytes64)) (mine : List Event) → IsOwnRun setup opening device mine → (h : ℕ)
+    → IsTrue (list_all (λ m. may_do setup opening mine (Act.Serve h (named_tag m))) (buffered_writes h mine))
 
 -- whether the task with first line a may snoop or finish (own rule)
 abbrev pub task_may_go_on : Configuration → List (Line × Bytes64) → List Event → ℕ → Bool
@@ -186,14 +182,14 @@ task_may_go_on setup opening mine a =
 -- a task by which no host is Asked may snoop or finish
 abbrev pub TasksGoOn : Type 0
 TasksGoOn =
-    (setup : Configuration) (opening : List (Line × Bytes64)) (t : List Event) → IsRun setup opening t → (a : ℕ)
-    → IsTrue (is_some ((directory setup (events_of device t)).task a)) → IsTrue (list_all (λ h. not (is_asked h a (events_of device t))) (below setup.hosts))
-    → IsTrue (task_may_go_on setup opening (events_of device t) a)
+    (setup : Configuration) (opening : List (Line × Bytes64)) (mine : List Event) → IsOwnRun setup opening device mine → (a : ℕ)
+    → IsTrue (is_some ((directory setup mine).task a)) → IsTrue (list_all (λ h. not (is_asked h a mine)) (below setup.hosts))
+    → IsTrue (task_may_go_on setup opening mine a)
 
 -- where no line is Busy and some Req message is buffered, Clean, Start or Evict may be done for one
 abbrev pub RequestsGoOn : Type 0
 RequestsGoOn =
-    (setup : Configuration) (opening : List (Line × Bytes64)) → IsWithinLimits setup → (t : List Event) → IsRun setup opening t
-    → IsTrue (list_all (λ a. not (is_busy (directory setup (events_of device t)) a)) (below setup.lines))
-    → IsTrue (list_any (λ h. nat_le 1 (length (buffered_requests h (events_of device t)))) (below setup.hosts))
-    → IsTrue (list_any (λ h. list_any (request_may_go_on setup opening (events_of device t) h) (buffered_requests h (events_of device t))) (below setup.hosts))
+    (setup : Configuration) (opening : List (Line × Bytes64)) → IsWithinLimits setup → (mine : List Event) → IsOwnRun setup opening device mine
+    → IsTrue (list_all (λ a. not (is_busy (directory setup mine) a)) (below setup.lines))
+    → IsTrue (list_any (λ h. nat_le 1 (length (buffered_requests h mine))) (below setup.hosts))
+    → IsTrue (list_any (λ h. list_any (request_may_go_on setup opening mine h) (buffered_requests h mine)) (below setup.hosts))

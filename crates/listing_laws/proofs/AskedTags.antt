@@ -32,7 +32,7 @@ use Rattle.request_laws.proofs.HostOperations.{eviction_kind, kind_of, request_o
 use Rattle.request_laws.proofs.OpenLines.{after_take, one_opens, quiet_parts, take_keeps, two_open, victim_opens}
 use Rattle.request_laws.proofs.OwnRuns.{host_goes_on}
 use Rattle.request_laws.proofs.SnoopsKept.{counts_snooped}
-use Rattle.request_laws.specs.OwnRuns.{is_own_run}
+use Rattle.coherence_model.specs.OwnRuns.{is_own_run}
 use Rattle.listing_laws.proofs.Operations.{OperationRow, RowAlone, RowEvicts, RowHits, operation_row}
 
 -- ---- an operation opens no snooped line

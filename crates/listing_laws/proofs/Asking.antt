@@ -25,7 +25,7 @@ use Rattle.coherence_lemmas.proofs.Options.{some_is}
 use Rattle.entry_laws.proofs.Blocks.{covers_first}
 use Rattle.entry_laws.proofs.DirectorySteps.{DirectoryKept}
 use Rattle.entry_laws.proofs.Kept.{directory_is_kept}
-use Rattle.entry_laws.proofs.OwnRuns.{device_run}
+use Rattle.coherence_model.proofs.OwnRuns.{events_of_run}
 use Rattle.request_laws.proofs.OwnRuns.{host_is_no_device}
 use Rattle.snoop_laws.proofs.Counts.{Among}
 use Rattle.snoop_laws.proofs.Laws.{held_snoops_were_sent}
@@ -74,7 +74,7 @@ module _ (setup : Configuration) (opening : List (Line × Bytes64)) (limits : Is
   -- no snoop has the line of the host's own task
   pub unasked : (a : ℕ) (task : Task) → (directory setup dev).task a ≡ Some task → is_eviction task.purpose ≡ false → task.host ≡ h → AskedFor h a dev → ⊥
   unasked a task stands request own asked =
-      let kept : DirectoryKept setup (directory setup dev) (λ g b. sent_snoop_at g b dev) = directory_is_kept setup dev (device_run setup opening t run) in
+      let kept : DirectoryKept setup (directory setup dev) (λ g b. sent_snoop_at g b dev) = directory_is_kept setup opening dev (events_of_run setup opening device t run) in
       let s = kept.snoops h asked.f asked.q asked.asked in
       let first = kept.tasks.apart asked.f a a s.t task s.is stands (s.within a asked.has) (covers_first a task.span) in
       let same = same_Some s.t task (sym s.is ∙ ap (directory setup dev).task first ∙ stands) in

@@ -20,7 +20,7 @@ use Rattle.cxl_message.specs.Setup.{Configuration}
 use Rattle.coherence_model.specs.Cache.{Cache, cache, copy, dropped_line, is_modified, is_valid, is_writable, needs_victim, pushed_out, victim_way, ways, without_dropped}
 use Rattle.coherence_model.specs.Copies.{Copy, copy_after, evicts, keeps_shared, modified, no_copy, shared}
 use Rattle.coherence_model.specs.Emission.{Emission}
-use Rattle.coherence_model.specs.FlatMemory.{line_after}
+use Rattle.cxl_message.specs.Stores.{line_after}
 use Rattle.coherence_model.specs.HostOperations.{eviction_message, hits, request_message}
 use Rattle.coherence_model.specs.Words.{one_if}
 use Rattle.coherence_lemmas.proofs.HostOperations.{Hit}

@@ -41,7 +41,8 @@ use Rattle.request_laws.proofs.BufferedSnoops.{snooped-total, total, total-answe
 use Rattle.request_laws.proofs.Counts.{covers-lines, times}
 use Rattle.request_laws.proofs.HostPlaces.{Taken}
 use Rattle.request_laws.proofs.OpenLines.{LeadBack, after_take, open_leads_back, take_keeps}
-use Rattle.request_laws.proofs.OwnRuns.{events_of_run, host_is_no_device}
+use Rattle.coherence_model.proofs.OwnRuns.{events_of_run}
+use Rattle.request_laws.proofs.OwnRuns.{host_is_no_device}
 use Rattle.request_laws.proofs.Places.{on_channel}
 use Rattle.listing_laws.proofs.AskedTags.{AskedFit, asked_fit, operation_leaves}
 use Rattle.listing_laws.proofs.Asking.{unsnooped}

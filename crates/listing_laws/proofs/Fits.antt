@@ -27,7 +27,7 @@ use Rattle.coherence_lemmas.proofs.Rows.{host_take-inv}
 use Rattle.request_laws.proofs.HostOperations.{Evicts, Hits, Operated, Requests, eviction_kind, kind_of, operated, request_opens}
 use Rattle.request_laws.proofs.OpenLines.{LeadBack, after_take, one_opens, open_leads_back, opening_line, tagged_found, two_open, victim_opens}
 use Rattle.request_laws.proofs.OwnRuns.{host_goes_on}
-use Rattle.request_laws.specs.OwnRuns.{is_own_run}
+use Rattle.coherence_model.specs.OwnRuns.{is_own_run}
 
 -- what is open for a line fits it
 pub record FitsLine (a : ℕ) (o : Transaction) : Type 0 where

@@ -23,13 +23,14 @@ use Rattle.coherence_model.specs.Tags.{is_conflict_open}
 use Rattle.coherence_model.specs.Tasks.{Task, is_eviction}
 use Rattle.coherence_model.specs.Traces.{device, events_of}
 use Rattle.coherence_model.specs.Transactions.{Transaction, open_at}
-use Rattle.coherence_lemmas.proofs.Messages.{message_eq-same}
+use Rattle.cxl_message.proofs.SameMessages.{message_eq-same}
 use Rattle.request_laws.proofs.AllConflicts.{others_are_nowhere}
 use Rattle.request_laws.proofs.Below.{passing_below}
 use Rattle.request_laws.proofs.Counts.{count_by-append, count_by-cons}
 use Rattle.request_laws.proofs.HostFacts.{conflict_tags_are_own, conflicts_have_lines}
 use Rattle.request_laws.proofs.Owners.{tasks_have_requests}
-use Rattle.request_laws.proofs.OwnRuns.{events_of_run, host_is_no_device}
+use Rattle.coherence_model.proofs.OwnRuns.{events_of_run}
+use Rattle.request_laws.proofs.OwnRuns.{host_is_no_device}
 use Rattle.request_laws.proofs.Places.{on_channel}
 use Rattle.listing_laws.proofs.Asking.{unsnooped}
 use Rattle.listing_laws.proofs.Grants.{DeviceGrants, NoGrant, OneGrant, device_grants}

@@ -43,7 +43,7 @@ use Rattle.request_laws.proofs.Counts.{covers-lines, times}
 use Rattle.request_laws.proofs.HostOperations.{eviction_kind, kind_of, request_opens}
 use Rattle.request_laws.proofs.OpenLines.{one_opens, quiet_parts, two_open, victim_opens}
 use Rattle.request_laws.proofs.OwnRuns.{host_goes_on}
-use Rattle.request_laws.specs.OwnRuns.{is_own_run}
+use Rattle.coherence_model.specs.OwnRuns.{is_own_run}
 use Rattle.listing_laws.proofs.Copies.{alone_copy, copy_next, evicting_copy, hit_copy, missed_unwritable, response_unwritable, store_hits, without_line, writable_count}
 use Rattle.listing_laws.proofs.Fits.{AreFit, open_lines_fit}
 use Rattle.listing_laws.proofs.HostNumbers.{HostKept, fewer, fills_line, opens_line, same_less, snoops_line, writes_line}

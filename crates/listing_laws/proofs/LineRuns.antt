@@ -35,7 +35,8 @@ use Rattle.request_laws.proofs.AllPlaces.{taken, there}
 use Rattle.request_laws.proofs.HostFacts.{writing_lines}
 use Rattle.request_laws.proofs.HostPlaces.{Taken, takes_here}
 use Rattle.request_laws.proofs.OpenLines.{open_leads_back}
-use Rattle.request_laws.proofs.OwnRuns.{events_of_run, host_is_no_device}
+use Rattle.coherence_model.proofs.OwnRuns.{events_of_run}
+use Rattle.request_laws.proofs.OwnRuns.{host_is_no_device}
 use Rattle.request_laws.proofs.Owners.{unused_tags}
 use Rattle.request_laws.proofs.Places.{on_channel, task_at}
 use Rattle.snoop_laws.proofs.Counts.{Among, found_among, none_counted}

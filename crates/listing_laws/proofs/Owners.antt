@@ -35,7 +35,8 @@ use Rattle.request_laws.proofs.Balances.{Balanced, BalancedAs, balance_as, balan
 use Rattle.request_laws.proofs.Counts.{count_by-cons}
 use Rattle.request_laws.proofs.HostPlaces.{tagged}
 use Rattle.request_laws.proofs.OpenLines.{open_leads_back, tagged_found}
-use Rattle.request_laws.proofs.OwnRuns.{events_of_run, host_is_no_device}
+use Rattle.coherence_model.proofs.OwnRuns.{events_of_run}
+use Rattle.request_laws.proofs.OwnRuns.{host_is_no_device}
 use Rattle.request_laws.proofs.Places.{FitsRequest, FitsWrite, OwnRequest, OwnWrite, is_write_of, task_at, write_back_at}
 use Rattle.request_laws.proofs.RequestKinds.{clean_kind, kind_same}
 use Rattle.snoop_laws.proofs.Counts.{Among, among_counts}

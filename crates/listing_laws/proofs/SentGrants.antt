@@ -20,7 +20,7 @@ use Rattle.coherence_model.specs.Transactions.{Kind, Transaction, is_request, op
 use Rattle.coherence_model.specs.Words.{one_if}
 use Rattle.request_laws.proofs.Counts.{count_by-append, count_by-cons}
 use Rattle.request_laws.proofs.OpenLines.{open_tags_are_distinct}
-use Rattle.request_laws.proofs.OwnRuns.{events_of_run}
+use Rattle.coherence_model.proofs.OwnRuns.{events_of_run}
 use Rattle.request_laws.proofs.Owners.{tasks_have_requests}
 use Rattle.listing_laws.proofs.Grants.{FinishedFor}
 use Rattle.listing_laws.proofs.Owners.{granted_so}

@@ -19,7 +19,7 @@ use Rattle.cxl_message.specs.Setup.{Configuration}
 use Rattle.coherence_model.specs.Cache.{copy}
 use Rattle.coherence_model.specs.Copies.{Copy, copy_after_commit, filling_grant, granted_state}
 use Rattle.coherence_model.specs.Emission.{Emission, nothing}
-use Rattle.coherence_model.specs.FlatMemory.{line_after}
+use Rattle.cxl_message.specs.Stores.{line_after}
 use Rattle.coherence_model.specs.HostTakes.{data_emission, fill_emission, grant_emission, host_takes, may_grant}
 use Rattle.coherence_model.specs.Tags.{open_with, tagged_line}
 use Rattle.coherence_model.specs.Transactions.{Kind, Transaction, is_read, is_request, open_after_data, open_after_grant, open_after_take, open_at}

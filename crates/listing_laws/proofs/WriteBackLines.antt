@@ -47,7 +47,8 @@ use Rattle.request_laws.proofs.Each.{Each, each_of_none, each_weaker}
 use Rattle.request_laws.proofs.HostPlaces.{takes_here}
 use Rattle.request_laws.proofs.OpenPlaced.{write_tagged}
 use Rattle.request_laws.proofs.Owners.{other_write_backs, write_backs_are_placed}
-use Rattle.request_laws.proofs.OwnRuns.{events_of_run, host_is_no_device}
+use Rattle.coherence_model.proofs.OwnRuns.{events_of_run}
+use Rattle.request_laws.proofs.OwnRuns.{host_is_no_device}
 use Rattle.request_laws.proofs.Places.{is_write_of, on_channel}
 use Rattle.request_laws.proofs.WriteBacks.{WritesAre, writes_kept}
 use Rattle.snoop_laws.proofs.Counts.{Among, among_counts, found_among}

@@ -1,4 +1,4 @@
-// Laws of every run on listings and copies.
+//! Laws of every run on listings and copies.
 #![tactic(auto)]
 
 ghost use Rattle.listing_laws.specs.Laws.{ListingsAreKept, WritableCopiesAreAlone};

@@ -185,12 +185,12 @@ begun : (setup : Configuration) (opening : List (Line × Bytes64)) (g k : ℕ) (
 begun setup opening g k tag op meta own a m commit mine limits facts low found exists idle =
     let D = directory setup mine in
     let few = limits.credits.1 in
-    let within = entries_within setup mine facts.run in
+    let within = entries_within setup facts.opening mine facts.run in
     let most = limits.entries.1 in
     let entries : length D.entries ≤ 4096 = omega arith in
     let tasks = sym (task_added D.task (request_task k own op meta) setup.lines a (idle_has_no_task D a idle) exists)
     ∙ ap (λ p. with_task_added setup.lines (standing a k p own.0) (kept_tasks setup.lines D)) (purpose_kept op meta) in
-    let count = entries_started setup D (directory_is_kept setup mine facts.run).entries a exists limits.hosts.1 idle entries in
+    let count = entries_started setup D (directory_is_kept setup facts.opening mine facts.run).entries a exists limits.hosts.1 idle entries in
     let desks = start_desks setup g k tag m commit mine few (facts.totals k) low found in
     λ i. record { memory = memory_of setup opening mine; listed = rows_of setup.lines D; tasks = tasks i; task_room = setup.lines; entries = count i; desks = desks i }
 
@@ -203,7 +203,7 @@ start_follows setup opening g k tag commit mine limits facts row =
     let low = ltb-true k setup.hosts row.host in
     let r = row.r in
     let m : Message = Message.Req r.op r.meta r.snp r.own_tag r.line in
-    let exists = request_line_exists setup k tag.0 (buffered_requests k mine) r (requests_are_taken setup mine facts.run k) in
+    let exists = request_line_exists setup k tag.0 (buffered_requests k mine) r (requests_are_taken setup facts.opening mine facts.run k) in
     ap (λ o. device_by setup (memory_of setup opening mine) (directory_after_start k o (directory setup mine)) (desks_of setup (event_at g (Cause.Act (Act.Start k tag)) Sends.Nothing commit ∷ mine))) r.found
     ∙ begun setup opening g k tag r.op r.meta r.own_tag r.line.0 m commit mine limits facts low r.found exists row.idle
     ∙ sym (ap (λ o. started_if setup k tag.0 o (kept_device setup opening mine)) (request_is setup mine k tag.0 low ∙ r.found))
@@ -279,11 +279,11 @@ pub finish_follows : (setup : Configuration) (opening : List (Line × Bytes64)) 
     ≡ device_after setup (Cause.Act (Act.Finish line)) (grant_sends t.host c t.tag bytes) (kept_device setup opening mine)
 finish_follows setup opening g line t c bytes commit mine facts is =
     let D = directory setup mine in
-    let shape = task_is setup mine facts.run facts.built line.0 t is in
+    let shape = task_is setup facts.opening mine facts.run facts.built line.0 t is in
     let l = granted_listing c in
     let E = ended D line.0 t.host l in
-    let kept = (directory_is_kept setup mine facts.run).entries in
-    let entries = ap length (entries_stay setup D kept (busy_is setup mine facts.run facts.built) line.0 t.host l shape.host (grant_listed c)) in
+    let kept = (directory_is_kept setup facts.opening mine facts.run).entries in
+    let entries = ap length (entries_stay setup D kept (busy_is setup facts.opening mine facts.run facts.built) line.0 t.host l shape.host (grant_listed c)) in
     let listed = granted_rows setup.lines D E line.0 t.host l shape.line refl in
     let tasks = sym (task_ended D.task t setup.lines line.0 is shape.line) in
     let desks = finish_desks setup g line t.host c t.tag bytes commit mine shape.host in

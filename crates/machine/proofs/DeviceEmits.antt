@@ -134,7 +134,7 @@ device_pending_is setup opening t run =
     let facts = device_facts setup opening t run in
     let D = directory setup mine in
     ap (λ b. b || list_any holds_request (map (λ h. kept_desk setup h mine) (below setup.hosts)))
-    (some_tasks D.task (below setup.lines) ∙ any_same (λ a. is_some (D.task a)) (is_busy D) setup.lines (λ a low. sym (busy_is setup mine facts.run facts.built a)))
+    (some_tasks D.task (below setup.lines) ∙ any_same (λ a. is_some (D.task a)) (is_busy D) setup.lines (λ a low. sym (busy_is setup facts.opening mine facts.run facts.built a)))
     ∙ ap (λ b. list_any (is_busy D) (below setup.lines) || b)
     (any_table holds_request (λ h. kept_desk setup h mine) (below setup.hosts)
     ∙ any_same (λ h. holds_request (kept_desk setup h mine)) (holds_message_of mine) setup.hosts (λ h low. holds_is setup mine facts h))

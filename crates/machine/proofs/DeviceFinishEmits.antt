@@ -145,26 +145,26 @@ ends_with : (setup : Configuration) (opening : List (Line × Bytes64)) (mine : L
     ≡ ends_as setup opening mine a (Some (record { purpose = p; host = host; tag = tag; span = span }))
 ends_with setup opening mine facts hosts a Purpose.SharedRead host tag span is =
     let t : Task = record { purpose = Purpose.SharedRead; host = host; tag = tag; span = span } in
-    let shape = task_is setup mine facts.run facts.built a t is in
+    let shape = task_is setup facts.opening mine facts.run facts.built a t is in
     let row = row_of_line_is setup.lines (directory setup mine) a shape.line in
     settled_when setup mine _ _ _ _
     (ap (λ r. list_all (is_unasked TaskPurpose.SharedRead host r) (below setup.hosts)) row ∙ settled_shared setup mine facts hosts a host tag span)
     (desk_grants setup opening mine a host tag _ _ shape.host shape.line (ap (shared_grant_in setup.hosts host) row ∙ shared_is setup mine hosts a t))
 ends_with setup opening mine facts hosts a Purpose.OwningRead host tag span is =
     let t : Task = record { purpose = Purpose.OwningRead; host = host; tag = tag; span = span } in
-    let shape = task_is setup mine facts.run facts.built a t is in
+    let shape = task_is setup facts.opening mine facts.run facts.built a t is in
     let row = row_of_line_is setup.lines (directory setup mine) a shape.line in
     settled_when setup mine _ _ _ _
     (ap (λ r. list_all (is_unasked TaskPurpose.OwningRead host r) (below setup.hosts)) row ∙ settled_owning setup mine facts hosts a host tag span)
     (desk_grants setup opening mine a host tag NdrOp.CmpE NdrOp.CmpE shape.host shape.line refl)
 ends_with setup opening mine facts hosts a Purpose.Invalidation host tag span is =
     let t : Task = record { purpose = Purpose.Invalidation; host = host; tag = tag; span = span } in
-    let shape = task_is setup mine facts.run facts.built a t is in
+    let shape = task_is setup facts.opening mine facts.run facts.built a t is in
     let settled = is_settled_in setup.hosts (kept_task a t) (listings_in (rows_of setup.lines (directory setup mine)) a) in
     ap (λ o. cond settled o None) (desk_is setup opening mine host (finish_by setup (kept_device setup opening mine) (kept_task a t)) shape.host) ∙ never settled
 ends_with setup opening mine facts hosts a Purpose.Eviction host tag span is =
     let t : Task = record { purpose = Purpose.Eviction; host = host; tag = tag; span = span } in
-    let shape = task_is setup mine facts.run facts.built a t is in
+    let shape = task_is setup facts.opening mine facts.run facts.built a t is in
     absurd (false≢true (sym shape.request))
 
 ends : (setup : Configuration) (opening : List (Line × Bytes64)) (mine : List Event) → DeviceFacts setup mine → setup.hosts ≤ 16 → (a : ℕ) (found : Option Task)
@@ -175,7 +175,7 @@ ends setup opening mine facts hosts a (Some t) is = ends_with setup opening mine
 
 no_task : (setup : Configuration) (mine : List Event) → DeviceFacts setup mine → (a : ℕ) (found : Option Task) → (directory setup mine).task a ≡ found → setup.lines ≤ a → None ≡ found
 no_task setup mine facts a None is high = refl
-no_task setup mine facts a (Some t) is high = let shape = task_is setup mine facts.run facts.built a t is in let low = shape.line in absurd (omega arith)
+no_task setup mine facts a (Some t) is high = let shape = task_is setup facts.opening mine facts.run facts.built a t is in let low = shape.line in absurd (omega arith)
 
 -- the task of a line, for every line
 pub task_kept : (setup : Configuration) (mine : List Event) → DeviceFacts setup mine → (a : ℕ)

@@ -34,13 +34,14 @@ use Rattle.entry_laws.proofs.Blocks.{covers_one, some_lines}
 use Rattle.entry_laws.proofs.Buffered.{credit_is_no_write}
 use Rattle.entry_laws.proofs.Counts.{sum_of_zeros}
 use Rattle.entry_laws.proofs.Kept.{directory_is_kept}
-use Rattle.entry_laws.proofs.OwnRuns.{DeviceRun, device_run}
 use Rattle.entry_laws.proofs.RoomSteps.{rooms_are_kept}
 use Rattle.entry_laws.proofs.Suffice.{entries_do_suffice}
 use Rattle.entry_laws.proofs.TaskShapes.{tasks_are_shaped}
 use Rattle.entry_laws.proofs.Tasks.{busy_at_task, covering}
 use Rattle.machine.proofs.BuiltRuns.{is_run_of_built}
 use Rattle.machine.specs.Built.{IsBuiltRun, grants_read, is_built, is_built_after, is_built_run, is_built_take}
+use Rattle.coherence_model.specs.OwnRuns.{IsOwnRun}
+use Rattle.coherence_model.proofs.OwnRuns.{events_of_run}
 
 -- ---- runs of built rows
 
@@ -185,8 +186,8 @@ no_reservations setup mine built =
     (λ tag. ap (λ r. cond (is_reservation r) 1 0) (no_eviction setup mine built h tag)) (below setup.tags)) (below setup.hosts)
 
 -- so the entries alone are within those of the filter
-pub entries_within : (setup : Configuration) (mine : List Event) → DeviceRun setup mine → length (directory setup mine).entries ≤ setup.entries
-entries_within setup mine run = let suffice = entries_do_suffice setup mine run in omega arith
+pub entries_within : (setup : Configuration) (opening : List (Line × Bytes64)) (mine : List Event) → IsOwnRun setup opening device mine → length (directory setup mine).entries ≤ setup.entries
+entries_within setup opening mine run = let suffice = entries_do_suffice setup opening mine run in omega arith
 
 -- ---- tasks
 
@@ -198,29 +199,29 @@ pub record RequestTask (setup : Configuration) (a : ℕ) (t : Task) : Type 0 whe
   pub one : t.span ≡ Span.One
 
 -- so is each task that stands
-pub task_is : (setup : Configuration) (mine : List Event) → DeviceRun setup mine → AllBuilt setup mine → (a : ℕ) (t : Task) → (directory setup mine).task a ≡ Some t → RequestTask setup a t
-task_is setup mine run built a t is =
-    let placed = (directory_is_kept setup mine run).tasks.placed a t is in
-    let shape = tasks_are_shaped setup mine run a t is in
+pub task_is : (setup : Configuration) (opening : List (Line × Bytes64)) (mine : List Event) → IsOwnRun setup opening device mine → AllBuilt setup mine → (a : ℕ) (t : Task) → (directory setup mine).task a ≡ Some t → RequestTask setup a t
+task_is setup opening mine run built a t is =
+    let placed = (directory_is_kept setup opening mine run).tasks.placed a t is in
+    let shape = tasks_are_shaped setup opening mine run a t is in
     let some = some_lines t.span in
     let line : a < setup.lines = omega arith in
     let request = false_from_ne_true (is_eviction t.purpose) (λ evicts.
-    let progress = (rooms_are_kept setup mine run).progress a t is evicts in
+    let progress = (rooms_are_kept setup opening mine run).progress a t is evicts in
     false≢true (ap is_no_eviction (sym progress ∙ no_eviction setup mine built t.host t.tag))) in
     record { line = line; host = ltb-true t.host setup.hosts shape.host; request = request; one = shape.span request }
 
-busy_by : (setup : Configuration) (mine : List Event) → DeviceRun setup mine → AllBuilt setup mine → (a : ℕ) (found : Option Task) → (directory setup mine).task a ≡ found
+busy_by : (setup : Configuration) (opening : List (Line × Bytes64)) (mine : List Event) → IsOwnRun setup opening device mine → AllBuilt setup mine → (a : ℕ) (found : Option Task) → (directory setup mine).task a ≡ found
     → is_busy (directory setup mine) a ≡ is_some found
-busy_by setup mine run built a None is = false_from_ne_true (is_busy (directory setup mine) a) (λ busy.
+busy_by setup opening mine run built a None is = false_from_ne_true (is_busy (directory setup mine) a) (λ busy.
     let by = covering (directory setup mine) a busy in
-    let one = (task_is setup mine run built by.first by.t by.is).one in
+    let one = (task_is setup opening mine run built by.first by.t by.is).one in
     let same : by.first ≡ a = covers_one by.first a (subst (λ s. covers by.first s a ≡ true) one by.covered) in
     none-some by.t (sym is ∙ ap (directory setup mine).task (sym same) ∙ by.is))
-busy_by setup mine run built a (Some t) is = busy_at_task (directory setup mine) a t is
+busy_by setup opening mine run built a (Some t) is = busy_at_task (directory setup mine) a t is
 
 -- a line is Busy exactly where it has a task
-pub busy_is : (setup : Configuration) (mine : List Event) → DeviceRun setup mine → AllBuilt setup mine → (a : ℕ) → is_busy (directory setup mine) a ≡ is_some ((directory setup mine).task a)
-busy_is setup mine run built a = busy_by setup mine run built a ((directory setup mine).task a) refl
+pub busy_is : (setup : Configuration) (opening : List (Line × Bytes64)) (mine : List Event) → IsOwnRun setup opening device mine → AllBuilt setup mine → (a : ℕ) → is_busy (directory setup mine) a ≡ is_some ((directory setup mine).task a)
+busy_is setup opening mine run built a = busy_by setup opening mine run built a ((directory setup mine).task a) refl
 
 -- ---- credits
 
@@ -250,7 +251,8 @@ totals setup opening t run h =
 
 -- what is known of the device's own events
 pub record DeviceFacts (setup : Configuration) (mine : List Event) : Type 0 where
-  pub run : DeviceRun setup mine
+  pub opening : List (Line × Bytes64)
+  pub run : IsOwnRun setup opening device mine
   pub built : AllBuilt setup mine
   pub totals : (h : ℕ) → Totals setup h mine
 
@@ -258,4 +260,4 @@ pub record DeviceFacts (setup : Configuration) (mine : List Event) : Type 0 wher
 pub device_facts : (setup : Configuration) (opening : List (Line × Bytes64)) (t : List Event) → IsBuiltRun setup opening t → DeviceFacts setup (events_of device t)
 device_facts setup opening t run =
     let plain = is_run_of_built setup opening t run in
-    record { run = device_run setup opening t plain; built = all_built setup opening device t run; totals = totals setup opening t plain }
+    record { opening = opening; run = events_of_run setup opening device t plain; built = all_built setup opening device t run; totals = totals setup opening t plain }

@@ -73,7 +73,7 @@ return_emits setup opening k c mine low = desk_is setup opening mine k (device_r
 -- a host with a buffered request exists
 request_host : (setup : Configuration) (mine : List Event) → DeviceFacts setup mine → (k tag : ℕ) (m : Message) → message_with tag (buffered_requests k mine) ≡ Some m → is_host setup k ≡ true
 request_host setup mine facts k tag m found =
-    let taken = all_found (has_tag tag) (is_taken_on setup k Channel.Req) (buffered_requests k mine) m (requests_are_taken setup mine facts.run k) found in
+    let taken = all_found (has_tag tag) (is_taken_on setup k Channel.Req) (buffered_requests k mine) m (requests_are_taken setup facts.opening mine facts.run k) found in
     let both = and_parts (take_fits setup device k m) (channel_eq (channel_of m) Channel.Req) taken in
     (take_parts setup device k m both.0).host
 
@@ -100,7 +100,7 @@ request_line : (setup : Configuration) (mine : List Event) → DeviceFacts setup
 request_line setup mine facts k tag op meta snp own line found =
     request_line_exists setup k own.0 (Message.Req op meta snp own line ∷ [])
     (record { op = op; meta = meta; snp = snp; own_tag = own; line = line; found = cond-true (own.0 == own.0) _ _ (eq-eqb own.0 own.0 refl); same = refl })
-    (one_taken _ (all_found (has_tag tag) (is_taken_on setup k Channel.Req) (buffered_requests k mine) (Message.Req op meta snp own line) (requests_are_taken setup mine facts.run k) found))
+    (one_taken _ (all_found (has_tag tag) (is_taken_on setup k Channel.Req) (buffered_requests k mine) (Message.Req op meta snp own line) (requests_are_taken setup facts.opening mine facts.run k) found))
 
 or_none : (x y : Bool) → y ≡ false → (x || y) ≡ x
 or_none true y none = refl
@@ -115,7 +115,7 @@ idle_is : (setup : Configuration) (mine : List Event) → DeviceFacts setup mine
     → is_none (task_in (kept_tasks setup.lines (directory setup mine)) a) ≡ not (is_busy (directory setup mine) a)
 idle_is setup mine facts a low =
     ap is_none (task_found (directory setup mine).task setup.lines a low) ∙ none_kept a ((directory setup mine).task a)
-    ∙ ap not (sym (busy_is setup mine facts.run facts.built a))
+    ∙ ap not (sym (busy_is setup facts.opening mine facts.run facts.built a))
 
 free_by : (entries n r : ℕ) → r ≡ 0 → nat_lt n entries ≡ nat_le 1 ((entries - n) - r)
 free_by entries n r none = grind (arith, nat_tests)

@@ -17,7 +17,7 @@ use Rattle.cxl_message.specs.Setup.{Configuration}
 use Rattle.coherence_model.specs.Credits.{credits_left, earned_count, is_credit_for, owed_count, returned_count, sent_count, taken_count, takes_credit}
 use Rattle.coherence_model.specs.Flight.{sends_on, takes_on}
 use Rattle.coherence_model.specs.HostOperations.{request_message}
-use Rattle.coherence_lemmas.proofs.Messages.{same-message_eq}
+use Rattle.cxl_message.proofs.SameMessages.{same-message_eq}
 use Rattle.credit_laws.proofs.Balance.{sent}
 use Rattle.request_laws.proofs.AllPlaces.{taken}
 use Rattle.request_laws.proofs.Options.{given}

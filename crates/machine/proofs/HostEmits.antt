@@ -21,7 +21,7 @@ use Rattle.cxl_message.specs.Setup.{Configuration, IsWithinLimits}
 use Rattle.coherence_model.specs.Cache.{copy, needs_victim, victim_way}
 use Rattle.coherence_model.specs.Credits.{credits_left, has_room, held_count, lacking_channel, lacks_credit, returned_count, taken_count}
 use Rattle.coherence_model.specs.Emission.{Emission, nothing, one_commit, one_send}
-use Rattle.coherence_model.specs.FlatMemory.{line_after}
+use Rattle.cxl_message.specs.Stores.{line_after}
 use Rattle.coherence_model.specs.HostOperations.{hits, request_alone, request_message, request_with_victim}
 use Rattle.coherence_model.specs.HostRows.{host_emission}
 use Rattle.coherence_model.specs.HostTakes.{data_emission, fill_emission, grant_emission, h3_data, h3_grant}
@@ -42,7 +42,8 @@ use Rattle.machine.proofs.HostSteps.{found_line, never_lacks, owed_is_held, requ
 use Rattle.machine.proofs.Lookups.{copy_is, hits_is}
 use Rattle.machine.proofs.TableLemmas.{first_of}
 use Rattle.machine.proofs.Verdicts.{as_emitted, emission_as_built}
-use Rattle.machine.specs.Built.{IsBuiltRun, is_built, is_built_act, is_whole}
+use Rattle.cxl_message.specs.Events.{is_whole}
+use Rattle.machine.specs.Built.{IsBuiltRun, is_built, is_built_act}
 use Rattle.machine.specs.HostAnswers.{commits_one, completion_of, data_of, emits_nothing, emits_one, fill_of, grant_of, hit_of, host_emits, request_of, request_paid}
 use Rattle.machine.specs.HostRecord.{copy_in, hits_copy, is_request_built, lowest_free_tag, read_with}
 use Rattle.machine.specs.Stands.{kept_host, kept_read}
@@ -92,7 +93,7 @@ request_emits setup h op mine (t ∷ ts) =
     ap (λ b. when b (emits_one h (request_message op t))) (sym (ap is_none (request_lacks setup h op t mine) ∙ one_left (credits_left setup h Channel.Req mine)))
     ∙ sent_when (is_none (lacking_channel setup (Sends.One (record { host = h; message = request_message op t })) mine)) h (request_message op t)
 
-operation_emits : (setup : Configuration) → setup.tags ≤ 64 → (h : ℕ) (mine : List Event) (s i : ℕ) (op : Op) → HostKeeps setup h mine → HostObeys setup h mine → line_of op < setup.lines → place_exists op ≡ true
+operation_emits : (setup : Configuration) → setup.tags ≤ 1024 → (h : ℕ) (mine : List Event) (s i : ℕ) (op : Op) → HostKeeps setup h mine → HostObeys setup h mine → line_of op < setup.lines → place_exists op ≡ true
     → EmitsHere setup h mine (Cause.Op s i op)
 operation_emits setup small h mine s i op k obeys low place =
     let kept = kept_host setup h mine in
@@ -257,7 +258,7 @@ FitsHost setup (Cause.Op s i op) = (line_of op < setup.lines) × (place_exists o
 FitsHost setup (Cause.Take g m) = IsTrue (message_formed m)
 FitsHost setup (Cause.Act act) = Unit {0}
 
-cause_emits : (setup : Configuration) → setup.tags ≤ 64 → (h : ℕ) (mine : List Event) (cause : Cause) → HostKeeps setup h mine → HostObeys setup h mine → FitsHost setup cause → EmitsHere setup h mine cause
+cause_emits : (setup : Configuration) → setup.tags ≤ 1024 → (h : ℕ) (mine : List Event) (cause : Cause) → HostKeeps setup h mine → HostObeys setup h mine → FitsHost setup cause → EmitsHere setup h mine cause
 cause_emits setup small h mine (Cause.Op s i op) k obeys fits = operation_emits setup small h mine s i op k obeys fits.0 fits.1
 cause_emits setup small h mine (Cause.Take g m) k obeys fits = take_emits setup h mine g m k obeys fits
 cause_emits setup small h mine (Cause.Act act) k obeys fits = act_emits setup h mine act

@@ -15,7 +15,7 @@ use Rattle.cxl_message.specs.Lists.{is_in}
 use Rattle.cxl_message.specs.Setup.{Configuration, IsWithinLimits}
 use Rattle.coherence_model.specs.Cache.{has_copy, needs_victim, ways}
 use Rattle.coherence_model.specs.Credits.{credits_left}
-use Rattle.coherence_model.specs.FlatMemory.{line_after}
+use Rattle.cxl_message.specs.Stores.{line_after}
 use Rattle.coherence_model.specs.HostOperations.{request_message}
 use Rattle.coherence_model.specs.Rules.{most_operations}
 use Rattle.coherence_model.specs.Tags.{open_with}

@@ -35,7 +35,8 @@ use Rattle.machine.proofs.HostFacts.{HostKeeps, IsReadOf, is_request_channel}
 use Rattle.machine.proofs.HostOpens.{Answers, credit_open, data_answers, grant_answers, open_take, request_open, same_either}
 use Rattle.machine.proofs.HostSteps.{FoundLine, found_line, operates, request_channel}
 use Rattle.machine.proofs.MessageKinds.{kind}
-use Rattle.machine.specs.Built.{is_built_host_return, is_whole}
+use Rattle.cxl_message.specs.Events.{is_whole}
+use Rattle.machine.specs.Built.{is_built_host_return}
 
 still_none : (n : ℕ) → n ≡ 0 → 0 + n ≡ 0
 still_none n h = omega arith

@@ -20,7 +20,7 @@ use Rattle.coherence_model.specs.Cache.{copy, is_writable, needs_victim, victim_
 use Rattle.coherence_model.specs.Credits.{lacking_channel}
 use Rattle.coherence_model.specs.Emission.{Emission, one_commit, one_send}
 use Rattle.coherence_model.specs.Fitting.{cause_fits}
-use Rattle.coherence_model.specs.FlatMemory.{line_after}
+use Rattle.cxl_message.specs.Stores.{line_after}
 use Rattle.coherence_model.specs.HostOperations.{hits, request_alone, request_message, request_with_victim}
 use Rattle.coherence_model.specs.Refusals.{Answer, answer_to_operation, cause_passes, profile_then_order, tags_needed, unless_lacking}
 use Rattle.coherence_model.specs.Rules.{most_operations, s0_stream_order}
@@ -40,7 +40,8 @@ use Rattle.machine.proofs.HostRuns.{host_keeps, host_not_device, host_obeys}
 use Rattle.machine.proofs.Lookups.{copy_is, hits_is, stream_is}
 use Rattle.machine.proofs.TableLemmas.{first_of}
 use Rattle.machine.proofs.Verdicts.{as_emitted}
-use Rattle.machine.specs.Built.{IsBuiltRun, is_whole}
+use Rattle.cxl_message.specs.Events.{is_whole}
+use Rattle.machine.specs.Built.{IsBuiltRun}
 use Rattle.machine.specs.HostAnswers.{commits_one, emits_one, hit_of}
 use Rattle.machine.specs.HostRecord.{copy_in, is_line_open, is_request_built, lowest_free_tag, stream_in}
 use Rattle.machine.specs.Offers.{as_result, host_offer, offer_in_order, offer_quiet, offer_request, offered_by}

@@ -25,7 +25,7 @@ use Rattle.machine.proofs.HostSteps.{found_line}
 use Rattle.machine.proofs.HostTables.{read_is}
 use Rattle.machine.proofs.Lookups.{copy_is}
 use Rattle.machine.proofs.TableLemmas.{any_table, first_in_table, first_of, none_past}
-use Rattle.machine.specs.Built.{is_whole}
+use Rattle.cxl_message.specs.Events.{is_whole}
 use Rattle.machine.specs.HostRecord.{copy_in, is_line_open, is_read_of, is_request_built, lowest_free_tag, read_with}
 use Rattle.machine.specs.Stands.{kept_host, kept_read}
 
@@ -89,7 +89,7 @@ first_free setup h mine k =
     first_in_table is_none (λ t. option_map kept_read (open_with t mine)) setup.tags
     ∙ ap first_of (same_filter (λ t. is_none (option_map kept_read (open_with t mine))) (λ t. not (is_tag_used t mine)) (below setup.tags) (λ t. free_test (open_with t mine) (is_conflict_open t mine) (k.conflicts t)))
 
-small_tag : (setup : Configuration) → setup.tags ≤ 64 → (mine : List Event) (ts : List ℕ) → free_tags setup mine ≡ ts → option_and_then (λ tag. when (nat_lt tag (2 ^ 16)) tag) (first_of ts) ≡ first_of ts
+small_tag : (setup : Configuration) → setup.tags ≤ 1024 → (mine : List Event) (ts : List ℕ) → free_tags setup mine ≡ ts → option_and_then (λ tag. when (nat_lt tag (2 ^ 16)) tag) (first_of ts) ≡ first_of ts
 small_tag setup small mine [] is = refl
 small_tag setup small mine (t ∷ ts) is =
     let low = (first_is_free setup mine t ts is).exists in
@@ -97,7 +97,7 @@ small_tag setup small mine (t ∷ ts) is =
     ap (λ b. when b t) (lt-ltb t 65536 less)
 
 -- the lowest tag without a read is the lowest free one
-pub lowest_is : (setup : Configuration) → setup.tags ≤ 64 → (h : ℕ) (mine : List Event) → HostKeeps setup h mine → lowest_free_tag (reads_of setup mine) ≡ first_of (free_tags setup mine)
+pub lowest_is : (setup : Configuration) → setup.tags ≤ 1024 → (h : ℕ) (mine : List Event) → HostKeeps setup h mine → lowest_free_tag (reads_of setup mine) ≡ first_of (free_tags setup mine)
 lowest_is setup small h mine k =
     ap (option_and_then (λ tag. when (nat_lt tag (2 ^ 16)) tag)) (first_free setup h mine k) ∙ small_tag setup small mine (free_tags setup mine) refl
 

@@ -20,7 +20,7 @@ use Rattle.coherence_lemmas.proofs.Allowed.{allowed_parts}
 use Rattle.coherence_lemmas.proofs.Rows.{host_row}
 use Rattle.credit_laws.proofs.Laws.{returned_were_taken, sent_within_credits}
 use Rattle.request_laws.proofs.OpenLines.{LeadBack, open_leads_back}
-use Rattle.request_laws.proofs.OwnRuns.{events_of_run}
+use Rattle.coherence_model.proofs.OwnRuns.{events_of_run}
 use Rattle.machine.proofs.BuiltRuns.{is_run_of_built}
 use Rattle.machine.proofs.HostFacts.{HostKeeps, HostObeys}
 use Rattle.machine.proofs.HostKept.{keeps_at}

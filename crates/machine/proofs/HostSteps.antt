@@ -23,7 +23,7 @@ use Rattle.coherence_model.specs.Cache.{copy, needs_victim}
 use Rattle.coherence_model.specs.Credits.{credits_left, has_room, held_count, lacking_channel, lacks_credit, sent_count}
 use Rattle.coherence_model.specs.Emission.{Emission, nothing}
 use Rattle.coherence_model.specs.Fitting.{cause_fits, is_device, take_fits}
-use Rattle.coherence_model.specs.FlatMemory.{line_after}
+use Rattle.cxl_message.specs.Stores.{line_after}
 use Rattle.coherence_model.specs.HostActs.{h10_return, host_acts}
 use Rattle.coherence_model.specs.HostOperations.{hits, request_message}
 use Rattle.coherence_model.specs.HostRows.{host_emission}
@@ -44,7 +44,8 @@ use Rattle.request_laws.proofs.FreeTags.{first_is_free, nothing_there}
 use Rattle.request_laws.proofs.Options.{given, guarded_some}
 use Rattle.machine.proofs.HostEvents.{Answering, Brings, DataFills, Earns, GrantFills, Grants, Hits, HostEvent, Operates, Requests, Returns, data_message, grant_message, hit_event, request_event, return_event, same_event, take_event}
 use Rattle.machine.proofs.HostFacts.{HostKeeps}
-use Rattle.machine.specs.Built.{is_built, is_built_act, is_built_host_return, is_built_take, is_whole}
+use Rattle.cxl_message.specs.Events.{is_whole}
+use Rattle.machine.specs.Built.{is_built, is_built_act, is_built_host_return, is_built_take}
 
 -- what the rules say of an event of host h, after its own events
 pub record HostStep (setup : Configuration) (h : ℕ) (mine : List Event) (e : Event) : Type 0 where

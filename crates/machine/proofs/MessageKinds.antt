@@ -2,7 +2,7 @@
 use Rattle.std.proofs.Common.{◌≡◌, ℕ, Bool, true, false, refl, ap, ◌≢◌}
 use Rattle.cxl_message.specs.declared.messages.Message.{Message}
 use Rattle.cxl_message.specs.Messages.{message_eq}
-use Rattle.coherence_lemmas.proofs.Messages.{message_eq-same}
+use Rattle.cxl_message.proofs.SameMessages.{message_eq-same}
 
 -- a number for each kind of message
 abbrev pub kind : Message → ℕ

@@ -19,7 +19,7 @@ use Rattle.coherence_model.specs.Traces.{device, events_of}
 use Rattle.step_laws.proofs.Buffered.{requests_fit}
 use Rattle.step_laws.proofs.Counts.{Each, each_both, each_holds, each_weaker}
 use Rattle.step_laws.proofs.Flight.{in_flight-channel}
-use Rattle.step_laws.proofs.OwnRuns.{own_run}
+use Rattle.coherence_model.proofs.OwnRuns.{events_of_run}
 use Rattle.step_laws.proofs.TakeSound.{in_flight-good}
 use Rattle.machine.specs.Built.{IsBuiltRun, built_steps, is_built_after}
 use Rattle.machine.specs.Stands.{kept_desk, kept_of}
@@ -77,7 +77,7 @@ starts_built setup opening tied t run =
     let B = is_built_after setup t in
     let M = kept_of setup opening t in
     let mine : List Event = events_of device t in
-    let own = own_run setup opening device t (is_run_of_built setup opening t run) in
+    let own = events_of_run setup opening device t (is_run_of_built setup opening t run) in
     filter-flat_map B (λ h. flat_map (request_acts setup opening t h) (buffered_requests h mine)) (below setup.hosts)
     ∙ flat_map-same (λ h. filter B (flat_map (request_acts setup opening t h) (buffered_requests h mine))) (start_steps M) (below setup.hosts)
     (each_below _ setup.hosts (λ h low.

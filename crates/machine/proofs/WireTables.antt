@@ -15,7 +15,7 @@ use Rattle.cxl_message.specs.Lists.{below}
 use Rattle.cxl_message.specs.Messages.{channel_of}
 use Rattle.cxl_message.specs.Setup.{Configuration}
 use Rattle.coherence_model.specs.Flight.{in_flight, is_on, takes_on, without_taken}
-use Rattle.coherence_lemmas.proofs.Codes.{channel_eq-same, same-channel_eq}
+use Rattle.cxl_message.proofs.SameNames.{channel_eq-same, same-channel_eq}
 use Rattle.machine.specs.MachineRecord.{wire_number, wire_place, wires_sent, wires_taken, wires_with}
 use Rattle.machine.specs.Queues.{QueueRecord, pushed, without_message}
 use Rattle.machine.specs.Stands.{kept_wire, wire_channel}

@@ -12,7 +12,7 @@ use Rattle.coherence_model.specs.Words.{when}
 use Rattle.machine.specs.declared.kept.LineCopy.{LineCopy}
 use Rattle.machine.specs.declared.kept.OpenRead.{OpenRead}
 use Rattle.machine.specs.declared.kept.StreamPlace.{StreamPlace}
-use Rattle.machine.specs.Built.{is_whole}
+use Rattle.cxl_message.specs.Events.{is_whole}
 
 -- the copies by line, the number of ways taken, the open reads by tag, the streams, the credits left of Req, and what is owed of NDR and DRS (own rule)
 pub record HostRecord : Type 0 where

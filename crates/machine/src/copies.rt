@@ -4,7 +4,6 @@ ghost use Rattle.cxl_message.specs.Codes.{copy_code};
 ghost use Rattle.machine.specs.HostRecord.{copy_in as copy_at, hits_copy as op_hits_copy, is_present as copy_is_present};
 
 use crate::kept::LineCopy;
-use crate::operations::is_load;
 use cxl_message::{Bytes64, Commit, CopyState, Op};
 
 /// The copy of a line; none for a line that isn't in the table.
@@ -48,7 +47,7 @@ pub fn is_writable(copy: &LineCopy) -> bool
 pub fn hits_copy(op: &Op, copy: &LineCopy) -> bool
     ensures { result ≡ op_hits_copy op.now copy.now }
 {
-    if is_load(op) {
+    if op.is_load() {
         is_present(copy)
     } else {
         is_writable(copy)
@@ -71,7 +70,7 @@ pub fn copy_after_fill(commit: &Commit) -> LineCopy
     ensures { result ≡ filled_copy commit.now }
 {
     LineCopy {
-        state: if is_load(&commit.op) {
+        state: if commit.op.is_load() {
             CopyState::E
         } else {
             CopyState::M

@@ -47,7 +47,7 @@ impl Desk {
     ghost use Rattle.machine.specs.DeviceChanges.{desk_earned, desk_granted, desk_returned, desk_took, desk_used};
 
     /// The buffered Req message with a tag.
-    pub fn request_with(&self, tag: u16) -> Option<Message>
+    pub fn request_with(&self, tag: u32) -> Option<Message>
         ensures { result ≡ message_with_tag tag self.now.requests.messages }
     {
         message_with(self.requests.messages(), tag)
@@ -79,7 +79,7 @@ impl Desk {
     }
 
     /// V1 for Req.
-    fn takes_request(&self, credits: u8, tag: u16) -> Option<Emitted>
+    fn takes_request(&self, credits: u8, tag: u32) -> Option<Emitted>
         ensures { result ≡ request_take_of credits tag self.now }
     {
         let held = self
@@ -139,7 +139,7 @@ impl Desk {
     }
 
     /// A grant with its data, where their credits are left.
-    pub fn grants(&self, host: u8, tag: u16, grant: NdrOp, bytes: &Bytes64) -> Option<Emitted>
+    pub fn grants(&self, host: u8, tag: u32, grant: NdrOp, bytes: &Bytes64) -> Option<Emitted>
         ensures { result ≡ grant_paid host tag grant bytes.now self.now }
     {
         if self.ndr_left >= 1 && self.drs_left >= 1 {
@@ -184,7 +184,7 @@ impl Desk {
     }
 
     /// After a request was used.
-    pub fn use_request(&mut self, tag: u16)
+    pub fn use_request(&mut self, tag: u32)
         ensures { self.new ≡ desk_used tag self.old }
     {
         self.requests.remove_tagged(tag);

@@ -17,7 +17,7 @@ pub fn take_at(desks: &mut Vec<Desk>, host: u8, message: &Message)
 }
 
 /// After a request of a host was used.
-pub fn use_request_at(desks: &mut Vec<Desk>, host: u8, tag: u16)
+pub fn use_request_at(desks: &mut Vec<Desk>, host: u8, tag: u32)
     ensures { desks.new.items ≡ changed_at host (desk_after_use tag) desks.old.items }
 {
     if (host as usize) < desks.len() {

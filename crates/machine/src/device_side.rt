@@ -138,7 +138,7 @@ impl DeviceSide {
     }
 
     /// The buffered Req message of a host with a tag.
-    fn request_at(&self, host: u8, tag: u16) -> Option<Message>
+    fn request_at(&self, host: u8, tag: u32) -> Option<Message>
         ensures { result ≡ request_at self.now.desks host tag }
     {
         match self.desks.get(host as usize) {
@@ -238,7 +238,7 @@ impl DeviceSide {
     }
 
     /// After Start of a buffered message.
-    fn start_by(&mut self, setup: &Setup, host: u8, used: u16, message: &Message)
+    fn start_by(&mut self, setup: &Setup, host: u8, used: u32, message: &Message)
         ensures { self.new ≡ started_by setup.now host used message.now self.old }
     {
         if let Message::Req {
@@ -260,7 +260,7 @@ impl DeviceSide {
     }
 
     /// After a request's task began.
-    fn start(&mut self, setup: &Setup, used: u16, task: &StandingTask)
+    fn start(&mut self, setup: &Setup, used: u32, task: &StandingTask)
         ensures { self.new ≡ started setup.now used task.now self.old }
     {
         if !has_listed(setup.hosts(), listings_in(&self.listed, task.line)) {

@@ -7,7 +7,7 @@ use crate::copies::{
     copy_after_fill, copy_in, hits_copy, is_present, modified_copy, set_at, set_copy,
 };
 use crate::kept::{Emitted, LineCopy, OpenRead, StreamPlace};
-use crate::operations::{is_load, is_whole, line_of, request_message};
+use crate::operations::request_message;
 use crate::reads::{
     completes, fills, is_line_open, lowest_free_tag, mark_filled, mark_granted, open_read,
 };
@@ -92,7 +92,7 @@ impl HostSide {
     fn operates(&self, setup: &Setup, host: u8, stream: u8, index: u32, op: &Op) -> Option<Emitted>
         ensures { result ≡ operation_of setup.now host stream index op.now self.now }
     {
-        let line = line_of(op);
+        let line = op.line().0;
         if is_line_open(&self.reads, line) {
             return None;
         }
@@ -107,7 +107,7 @@ impl HostSide {
     fn requests(&self, setup: &Setup, host: u8, op: &Op) -> Option<Emitted>
         ensures { result ≡ request_of setup.now host op.now self.now }
     {
-        let copy = copy_in(&self.copies, line_of(op));
+        let copy = copy_in(&self.copies, op.line().0);
         if is_request_built(setup, op, &copy, self.ways) {
             request_paid(host, op, self.req_left, lowest_free_tag(&self.reads))
         } else {
@@ -143,7 +143,7 @@ impl HostSide {
     }
 
     /// H3 for NDR messages.
-    fn takes_ndr(&self, setup: &Setup, op: NdrOp, tag: u16) -> Option<Emitted>
+    fn takes_ndr(&self, setup: &Setup, op: NdrOp, tag: u32) -> Option<Emitted>
         ensures { result ≡ ndr_of setup.now op tag self.now }
     {
         match op {
@@ -239,7 +239,7 @@ impl HostSide {
     fn request(&mut self, stream: u8, index: u32, op: &Op, message: &Message)
         ensures { self.new ≡ requested stream index op.now message.now self.old }
     {
-        let copy = copy_in(&self.copies, line_of(op));
+        let copy = copy_in(&self.copies, op.line().0);
         if !is_present(&copy) {
             self.ways = self.ways.saturating_add(1);
         }
@@ -269,7 +269,7 @@ impl HostSide {
     ghost use Rattle.machine.specs.HostChanges.{with_ndr_owed, with_drs_owed};
 
     /// After a Cmp-E.
-    fn take_grant(&mut self, tag: u16, commit: &Option<Commit>)
+    fn take_grant(&mut self, tag: u32, commit: &Option<Commit>)
         ensures { self.new ≡ with_ndr_owed (answered tag marked_granted commit.now self.old) }
     {
         match commit {
@@ -280,7 +280,7 @@ impl HostSide {
     }
 
     /// After a MemData.
-    fn take_data(&mut self, tag: u16, bytes: &Bytes64, commit: &Option<Commit>)
+    fn take_data(&mut self, tag: u32, bytes: &Bytes64, commit: &Option<Commit>)
         ensures { self.new ≡ with_drs_owed (answered tag (marked_with bytes.now) commit.now self.old) }
     {
         match commit {
@@ -293,13 +293,13 @@ impl HostSide {
     ghost use Rattle.std.specs.Prelude.{Some};
 
     /// After a fill.
-    fn fill(&mut self, tag: u16, commit: &Commit)
+    fn fill(&mut self, tag: u32, commit: &Commit)
         ensures { self.new ≡ answered tag marked_granted (Some commit.now) self.old }
     {
         set_at(&mut self.reads, tag as usize, None);
         set_copy(
             &mut self.copies,
-            line_of(&commit.op),
+            commit.op.line().0,
             copy_after_fill(commit),
         );
         end(&mut self.streams, commit.stream);
@@ -340,7 +340,7 @@ impl HostSide {
     pub fn hits(&self, op: &Op) -> bool
         ensures { result ≡ op_hits_copy op.now (copy_at self.now.copies (line_of_op op.now)) }
     {
-        hits_copy(op, &copy_in(&self.copies, line_of(op)))
+        hits_copy(op, &copy_in(&self.copies, op.line().0))
     }
 
     /// Whether some read is open.
@@ -360,11 +360,11 @@ ghost use Rattle.machine.specs.HostChanges.{copies_after_hit};
 pub fn is_request_built(setup: &Setup, op: &Op, copy: &LineCopy, ways: u32) -> bool
     ensures { result ≡ request_is_built setup.now op.now copy.now ways }
 {
-    !is_whole(op) && !(!is_present(copy) && u32::from(setup.ways()) <= ways)
+    !op.is_whole() && !(!is_present(copy) && u32::from(setup.ways()) <= ways)
 }
 
 /// A request takes the lowest free tag and one credit.
-fn request_paid(host: u8, op: &Op, left: u8, tag: Option<u16>) -> Option<Emitted>
+fn request_paid(host: u8, op: &Op, left: u8, tag: Option<u32>) -> Option<Emitted>
     ensures { result ≡ paid_request host op.now left tag }
 {
     match tag {
@@ -384,8 +384,8 @@ fn store_hit(copies: &mut Vec<LineCopy>, op: &Op, commit: &Option<Commit>)
     ensures { copies.new.items ≡ copies_after_hit op.now commit.now copies.old.items }
 {
     if let Some(commit) = commit {
-        if !is_load(op) {
-            set_copy(copies, line_of(op), modified_copy(&commit.value));
+        if !op.is_load() {
+            set_copy(copies, op.line().0, modified_copy(&commit.value));
         }
     }
 }

@@ -47,7 +47,7 @@ impl Machine {
         self.visit(&mut picker);
         match picker.found {
             Some(event) => event,
-            None => unreachable!(),
+            None => unreachable!("the number is below the number of steps"),
         }
     }
 

@@ -50,7 +50,7 @@ pub struct StandingTask {
     pub line: u32,
     pub purpose: TaskPurpose,
     pub host: u8,
-    pub tag: u16,
+    pub tag: u32,
 }
 
 /// Counts steps, and keeps the one of the wanted number.

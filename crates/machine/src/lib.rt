@@ -7,7 +7,6 @@
 mod answers;
 mod bytes;
 mod calls;
-mod codes;
 mod copies;
 mod desk;
 mod desks;
@@ -27,7 +26,6 @@ mod queue;
 mod reads;
 mod refusals;
 mod rows;
-mod same;
 mod streams;
 mod tasks;
 #[cfg(test)]

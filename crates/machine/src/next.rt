@@ -7,10 +7,8 @@ ghost use Rattle.machine.specs.Steps.{picked, picking, visited};
 use crate::answers::event_of;
 use crate::engine::Machine;
 use crate::kept::{Picker, StandingTask};
-use crate::profile::DEVICE;
-use crate::queue::tag_of;
 use crate::wires::{is_takeable, waiting_on};
-use cxl_message::{Act, Cause, Channel, Event, Line, Message, Tag};
+use cxl_message::{Act, Cause, Channel, DEVICE, Event, Line, Message, Tag};
 
 /// The eight channels of a host, in the order of the takes.
 const CHANNELS: [Channel; 8] = [
@@ -209,11 +207,11 @@ fn receiver(host: u8, channel: Channel) -> u8
 }
 
 /// The tag of a message, or 0 where it has none.
-fn tag_or_zero(message: &Message) -> u16
+fn tag_or_zero(message: &Message) -> u32
     ensures { result ≡ tag_of_or_zero message.now }
 {
-    match tag_of(message) {
-        Some(tag) => tag,
+    match message.tag() {
+        Some(tag) => tag.0,
         None => 0,
     }
 }

@@ -6,7 +6,7 @@ use crate::bytes::stored;
 use crate::copies::{copy_in, hits_copy};
 use crate::host_side::{HostSide, is_request_built};
 use crate::kept::{Emitted, LineCopy, StreamPlace};
-use crate::operations::{line_of, place_exists, request_message};
+use crate::operations::request_message;
 use crate::reads::{is_line_open, lowest_free_tag};
 use crate::refusals::HostRefusal;
 use cxl_message::{Cause, Channel, Event, Op, RuleNo, Setup};
@@ -18,7 +18,7 @@ impl HostSide {
     pub fn offer(&self, setup: &Setup, host: u8, stream: u8, op: &Op) -> Result<Event, HostRefusal>
         ensures { result ≡ host_offer setup.now host stream op.now self.now }
     {
-        let line = line_of(op);
+        let line = op.line().0;
         if line >= setup.lines() {
             return Err(HostRefusal::NoSuchLine);
         }
@@ -57,7 +57,7 @@ impl HostSide {
         host: u8,
         stream: u8,
         op: &Op,
-        tag: Option<u16>,
+        tag: Option<u32>,
     ) -> Result<Event, HostRefusal>
         ensures { result ≡ offer_request host stream op.now self.now tag }
     {
@@ -88,7 +88,7 @@ fn offer_in_order(
 ) -> Result<Event, HostRefusal>
     ensures { result ≡ offered_in_order host stream op.now place.now emitted.now }
 {
-    if !place_exists(op) {
+    if !op.place_exists() {
         return Err(HostRefusal::Broken(RuleNo::P0));
     }
     if place.begun < u32::MAX && !place.waits {

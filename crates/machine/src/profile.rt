@@ -6,14 +6,10 @@ ghost use Rattle.cxl_message.specs.Events.{outs};
 ghost use Rattle.coherence_model.specs.Fitting.{act_fits as act_fits_in, cause_fits as cause_fits_in, commit_fits as commit_fits_in, goes_to as message_goes_to, is_addressed as host_is_addressed, is_device as agent_is_device, is_host as agent_is_host, message_fits as message_fits_in, ndr_tag_exists as ndr_tag_is_there, operation_fits as operation_fits_in, out_fits as out_fits_in, span_exists as span_is_there, take_fits as take_fits_in};
 ghost use Rattle.coherence_model.specs.Rules.{p0_profile};
 
-use crate::operations::line_of;
 use cxl_message::{
-    Act, Cause, Commit, Event, Line, Message, NdrOp, Op, Out, Sends, Setup, Span, Tag, in_profile,
-    well_formed,
+    Act, Cause, Commit, DEVICE, Event, Line, Message, NdrOp, Op, Out, Sends, Setup, Span, Tag,
+    in_profile, well_formed,
 };
-
-/// The device as an agent.
-pub const DEVICE: u8 = 16;
 
 /// Whether an event keeps rule P0.
 pub fn keeps_profile(setup: &Setup, event: &Event) -> bool
@@ -77,7 +73,7 @@ fn operation_fits(setup: &Setup, agent: u8, stream: u8, op: &Op) -> bool
         Some(host) => host == agent,
         None => false,
     };
-    is_host(setup, agent) && own && line_of(op) < setup.lines()
+    is_host(setup, agent) && own && op.line().0 < setup.lines()
 }
 
 /// Whether the agent may take such a message of a host.
@@ -118,7 +114,7 @@ fn commit_fits(setup: &Setup, commit: &Option<Commit>) -> bool
     ensures { result ≡ option_map_or (commit_fits_in setup.now) commit.now true }
 {
     match commit {
-        Some(commit) => line_of(&commit.op) < setup.lines(),
+        Some(commit) => commit.op.line().0 < setup.lines(),
         None => true,
     }
 }
@@ -184,14 +180,14 @@ fn line_exists(setup: &Setup, line: Line) -> bool
 fn tag_exists(setup: &Setup, tag: Tag) -> bool
     ensures { result ≡ tag_is_there setup.now tag }
 {
-    tag.0 < u16::from(setup.tags())
+    tag.0 < u32::from(setup.tags())
 }
 
 /// Whether a tag is one of a write's.
 fn write_tag_exists(setup: &Setup, tag: Tag) -> bool
     ensures { result ≡ write_tag_is_there setup.now tag }
 {
-    tag.0 <= u16::from(setup.tags())
+    tag.0 <= u32::from(setup.tags())
 }
 
 /// Whether an NDR message may have a tag.

@@ -1,11 +1,10 @@
 // Queues of messages with room for so many, which never take memory after they were opened.
 ghost use Rattle.std.specs.Prelude.{◌≡◌};
-ghost use Rattle.cxl_message.specs.Messages.{has_tag as message_has_tag, message_eq, tag_of as tag_of_message};
+ghost use Rattle.cxl_message.specs.Messages.{has_tag as message_has_tag, message_eq};
 ghost use Rattle.coherence_model.specs.Buffers.{message_with as message_with_tag, without_tag};
 ghost use Rattle.coherence_model.specs.Flight.{without_first};
 
-use crate::same::same_message;
-use cxl_message::Message;
+use cxl_message::{Message, Tag, same_message};
 use std::alloc::{AllocError, Global};
 use std::marker::Model;
 
@@ -61,7 +60,7 @@ impl Queue {
     }
 
     /// Takes the first message with a tag away.
-    pub fn remove_tagged(&mut self, tag: u16)
+    pub fn remove_tagged(&mut self, tag: u32)
         ensures { self.new ≡ without_tagged tag self.old }
     {
         remove_tagged(&mut self.messages, tag);
@@ -70,34 +69,15 @@ impl Queue {
 
 ghost use Rattle.std.specs.Prelude.{position, vec_capacity, find};
 
-/// The Tag of a message that has one.
-pub fn tag_of(message: &Message) -> Option<u16>
-    ensures { result ≡ tag_of_message message.now }
-{
-    match message {
-        Message::Req { tag, .. } => Some(tag.0),
-        Message::MemWr { tag, .. } => Some(tag.0),
-        Message::BiConflict { tag } => Some(tag.0),
-        Message::Ndr { tag, .. } => Some(tag.0),
-        Message::MemData { tag, .. } => Some(tag.0),
-        Message::BiRsp { .. } => None,
-        Message::BiSnp { .. } => None,
-        Message::Credit { .. } => None,
-    }
-}
-
-/// Whether a message has this tag.
-pub fn has_tag(tag: u16, message: &Message) -> bool
+/// Whether a message has the Tag of this number.
+pub fn has_tag(tag: u32, message: &Message) -> bool
     ensures { result ≡ message_has_tag tag message.now }
 {
-    match tag_of(message) {
-        Some(own) => own == tag,
-        None => false,
-    }
+    message.has_tag(Tag(tag))
 }
 
 /// The first message with a tag.
-pub fn message_with(messages: &[Message], tag: u16) -> Option<Message>
+pub fn message_with(messages: &[Message], tag: u32) -> Option<Message>
     ensures { result ≡ message_with_tag tag messages.now }
 {
     messages
@@ -116,7 +96,7 @@ fn place_of(messages: &[Message], message: &Message) -> Option<usize>
 }
 
 /// The place of the first message with a tag.
-fn place_with(messages: &[Message], tag: u16) -> Option<usize>
+fn place_with(messages: &[Message], tag: u32) -> Option<usize>
     ensures { result ≡ position (message_has_tag tag) messages.now }
 {
     messages.iter().position(|message| has_tag(tag, message))
@@ -133,7 +113,7 @@ fn remove_first(messages: &mut Vec<Message>, message: &Message)
 }
 
 /// Takes the first message with a tag away.
-fn remove_tagged(messages: &mut Vec<Message>, tag: u16)
+fn remove_tagged(messages: &mut Vec<Message>, tag: u32)
     ensures items { messages.new.items ≡ without_tag tag messages.old.items }
     ensures capacity { vec_capacity messages.new ≡ vec_capacity messages.old }
 {

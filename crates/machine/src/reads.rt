@@ -3,14 +3,13 @@ ghost use Rattle.std.specs.Prelude.{◌≡◌, position, is_none};
 ghost use Rattle.machine.specs.HostRecord.{is_line_open as line_is_open, is_read_of as read_is_of, lowest_free_tag as lowest_free_tag_in, read_with as read_at};
 
 use crate::kept::OpenRead;
-use crate::operations::line_of;
 
 /// Whether a tag's open read, if there is one, is of a line.
 fn is_read_of(line: u32, read: &Option<OpenRead>) -> bool
     ensures { result ≡ read_is_of line read.now }
 {
     match read {
-        Some(read) => line_of(&read.op) == line,
+        Some(read) => read.op.line().0 == line,
         None => false,
     }
 }
@@ -30,19 +29,19 @@ fn first_free(reads: &[Option<OpenRead>]) -> Option<usize>
 }
 
 /// The lowest tag without an open read.
-pub fn lowest_free_tag(reads: &[Option<OpenRead>]) -> Option<u16>
+pub fn lowest_free_tag(reads: &[Option<OpenRead>]) -> Option<u32>
     ensures { result ≡ lowest_free_tag_in reads.now }
 {
     let place = first_free(reads)?;
     if place < 65536 {
-        Some(place as u16)
+        Some(place as u32)
     } else {
         None
     }
 }
 
 /// The open read with a tag.
-pub fn read_with(reads: &[Option<OpenRead>], tag: u16) -> Option<OpenRead>
+pub fn read_with(reads: &[Option<OpenRead>], tag: u32) -> Option<OpenRead>
     ensures { result ≡ read_at reads.now tag }
 {
     match reads.get(tag as usize) {
@@ -69,7 +68,7 @@ fn fill(read: &OpenRead, bytes: &Bytes64) -> Emitted
 }
 
 /// What a Cmp-E with a tag performs: an open read that wasn't granted is.
-pub fn completes(reads: &[Option<OpenRead>], tag: u16) -> Option<Emitted>
+pub fn completes(reads: &[Option<OpenRead>], tag: u32) -> Option<Emitted>
     ensures { result ≡ completion_of (read_at reads.now tag) }
 {
     let read = read_with(reads, tag)?;
@@ -83,7 +82,7 @@ pub fn completes(reads: &[Option<OpenRead>], tag: u16) -> Option<Emitted>
 }
 
 /// What a MemData with a tag performs: an open read that had no bytes has these.
-pub fn fills(reads: &[Option<OpenRead>], tag: u16, bytes: &Bytes64) -> Option<Emitted>
+pub fn fills(reads: &[Option<OpenRead>], tag: u32, bytes: &Bytes64) -> Option<Emitted>
     ensures { result ≡ data_of bytes.now (read_at reads.now tag) }
 {
     let read = read_with(reads, tag)?;
@@ -120,7 +119,7 @@ pub fn open_read(
 }
 
 /// Marks the open read with a tag as granted.
-pub fn mark_granted(reads: &mut Vec<Option<OpenRead>>, tag: u16)
+pub fn mark_granted(reads: &mut Vec<Option<OpenRead>>, tag: u32)
     ensures { reads.new.items ≡ slice_set reads.old.items tag (option_map marked_granted (read_at reads.old.items tag)) }
 {
     let read = match read_with(reads, tag) {
@@ -134,7 +133,7 @@ pub fn mark_granted(reads: &mut Vec<Option<OpenRead>>, tag: u16)
 }
 
 /// Gives the open read with a tag its bytes.
-pub fn mark_filled(reads: &mut Vec<Option<OpenRead>>, tag: u16, bytes: &Bytes64)
+pub fn mark_filled(reads: &mut Vec<Option<OpenRead>>, tag: u32, bytes: &Bytes64)
     ensures { reads.new.items ≡ slice_set reads.old.items tag (option_map (marked_with bytes.now) (read_at reads.old.items tag)) }
 {
     let read = match read_with(reads, tag) {

@@ -65,7 +65,7 @@ fn commit(index: u32, op: Op, value: Bytes64) -> Option<Commit> {
     })
 }
 
-fn read(tag: u16) -> Message {
+fn read(tag: u32) -> Message {
     Message::Req {
         op: ReqOp::MemRd,
         meta: Meta::Shared,
@@ -75,11 +75,11 @@ fn read(tag: u16) -> Message {
     }
 }
 
-fn grant(op: NdrOp, tag: u16) -> Message {
+fn grant(op: NdrOp, tag: u32) -> Message {
     Message::Ndr { op, tag: Tag(tag) }
 }
 
-fn data(tag: u16, bytes: Bytes64) -> Message {
+fn data(tag: u32, bytes: Bytes64) -> Message {
     Message::MemData {
         tag: Tag(tag),
         bytes,
@@ -90,14 +90,14 @@ fn credit(channel: Channel) -> Message {
     Message::Credit { channel }
 }
 
-fn start(tag: u16) -> Cause {
+fn start(tag: u32) -> Cause {
     Cause::Act(Act::Start {
         host: 0,
         tag: Tag(tag),
     })
 }
 
-fn finish(op: NdrOp, tag: u16, bytes: Bytes64) -> Event {
+fn finish(op: NdrOp, tag: u32, bytes: Bytes64) -> Event {
     Event {
         sends: Sends::Two(
             Out {

@@ -5,9 +5,8 @@ ghost use Rattle.cxl_message.specs.Messages.{is_conflict_ack as message_is_confl
 ghost use Rattle.coherence_model.specs.Flight.{is_first_of_tag as message_is_first_of_tag, is_takeable as message_is_takeable, shares_tag as message_shares_tag};
 ghost use Rattle.machine.specs.MachineRecord.{waiting_on as waiting_on_wire, wire_number as number_of_wire, wire_place as place_of_wire, wires_sent as wires_after_sends, wires_taken as wires_after_cause, wires_with};
 
-use crate::queue::{Queue, has_tag, tag_of};
-use crate::same::same_message;
-use cxl_message::{Cause, Channel, Message, NdrOp, Out, Sends};
+use crate::queue::Queue;
+use cxl_message::{Cause, Channel, Message, NdrOp, Out, Sends, same_message};
 
 /// The number of a channel among the eight of its host.
 fn wire_number(channel: Channel) -> usize
@@ -67,8 +66,8 @@ fn is_conflict_ack(message: &Message) -> bool
 fn shares_tag(message: &Message, other: &Message) -> bool
     ensures { result ≡ message_shares_tag message.now other.now }
 {
-    match tag_of(message) {
-        Some(tag) => has_tag(tag, other),
+    match message.tag() {
+        Some(tag) => other.has_tag(tag),
         None => false,
     }
 }

@@ -21,6 +21,7 @@ use Rattle.request_laws.proofs.Owners.{tasks_have_requests as tasks_by_tag}
 use Rattle.owner_laws.proofs.Lines.{lines_placed}
 use Rattle.owner_laws.proofs.Owners.{messages_owned}
 use Rattle.owner_laws.specs.Owned.{RequestsArePlaced}
+use Rattle.coherence_model.proofs.OwnRuns.{events_of_run}
 
 -- a task that is no eviction is that of its host's tag
 task_of_itself : (task : Task) → is_eviction task.purpose ≡ false → is_task_of task.host task.tag task ≡ true
@@ -34,7 +35,7 @@ module _ (setup : Configuration) (opening : List (Line × Bytes64)) (limits : Is
   task_owned a task there true is = or_left (is_eviction task.purpose) (is_open_so (purpose_fits task.purpose) task.tag (open_at a (events_of task.host t))) is
   task_owned a task there false is =
       or_right (is_eviction task.purpose) (is_open_so (purpose_fits task.purpose) task.tag (open_at a (events_of task.host t)))
-      (tasks_by_tag setup opening limits task.host (tasks_are_named setup opening t run a task there).0 t run task.tag a task there (task_of_itself task is))
+      (tasks_by_tag setup opening limits task.host (tasks_are_named setup opening (events_of device t) (events_of_run setup opening device t run) a task there).0 t run task.tag a task there (task_of_itself task is))
 
   -- so is the task at a line, if one stands there
   owned_if : (a : ℕ) (o : Option Task) → (directory setup (events_of device t)).task a ≡ o → option_map_or (task_has_request t a) o true ≡ true

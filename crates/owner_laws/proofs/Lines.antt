@@ -24,10 +24,11 @@ use Rattle.request_laws.proofs.Each.{Each, each_append}
 use Rattle.request_laws.proofs.HostFacts.{asked_lines, write_back_is_alone}
 use Rattle.request_laws.proofs.OpenPlaced.{open_lines_are_placed, write_tagged}
 use Rattle.request_laws.proofs.Owners.{write_backs_are_placed}
-use Rattle.request_laws.proofs.OwnRuns.{events_of_run, host_is_no_device}
+use Rattle.coherence_model.proofs.OwnRuns.{events_of_run}
+use Rattle.request_laws.proofs.OwnRuns.{host_is_no_device}
 use Rattle.request_laws.proofs.Places.{is_write_of}
 use Rattle.request_laws.proofs.WriteBacks.{writes_kept}
-use Rattle.request_laws.specs.OwnRuns.{is_own_run}
+use Rattle.coherence_model.specs.OwnRuns.{is_own_run}
 use Rattle.snoop_laws.proofs.Counts.{counts_alike}
 use Rattle.listing_laws.proofs.UnderWay.{each_at}
 use Rattle.listing_laws.proofs.WriteBackLines.{Back, backs_seen}

@@ -30,7 +30,7 @@ use Rattle.coherence_model.specs.Tags.{is_conflict_open, is_conflict_with, open_
 use Rattle.coherence_model.specs.Traces.{device, events_of}
 use Rattle.coherence_model.specs.Transactions.{Kind, Transaction, is_read, is_request, open_at, request_kind}
 use Rattle.coherence_model.specs.WriteBacks.{completes, is_write_back_open}
-use Rattle.coherence_lemmas.proofs.Codes.{channel_eq-same}
+use Rattle.cxl_message.proofs.SameNames.{channel_eq-same}
 use Rattle.entry_laws.proofs.Laws.{buffered_messages_fit}
 use Rattle.request_laws.proofs.AllConflicts.{conflicts_counted}
 use Rattle.request_laws.proofs.AllPlaces.{PlacedAfter, placed}
@@ -38,9 +38,10 @@ use Rattle.request_laws.proofs.Balances.{Balanced, BalancedAs, balance_of, here}
 use Rattle.request_laws.proofs.HostFacts.{conflicts_have_lines, write_backs_have_lines, writing_lines}
 use Rattle.request_laws.proofs.HostPlaces.{Tagged, nothing_has, tagged}
 use Rattle.request_laws.proofs.OpenLines.{open_leads_back}
-use Rattle.request_laws.proofs.OwnRuns.{events_of_run, host_is_no_device}
+use Rattle.coherence_model.proofs.OwnRuns.{events_of_run}
+use Rattle.request_laws.proofs.OwnRuns.{host_is_no_device}
 use Rattle.request_laws.proofs.Places.{FitsRequest, FitsWrite, OwnRequest, OwnWrite, is_write_of, write_back_at}
-use Rattle.request_laws.specs.OwnRuns.{is_own_run}
+use Rattle.coherence_model.specs.OwnRuns.{is_own_run}
 use Rattle.snoop_laws.proofs.Counts.{Among, among_counts, among_either}
 use Rattle.listing_laws.proofs.UnderWay.{each_at}
 use Rattle.listing_laws.proofs.WriteBackLines.{Back, backs_seen}
@@ -347,14 +348,14 @@ module _ (setup : Configuration) (opening : List (Line × Bytes64)) (limits : Is
   requests_owned : list_all (has_owner setup own) (requests_under_way h t) ≡ true
   requests_owned = all_under (in_flight h Channel.Req t) (buffered_requests h dev) (λ m under. on_req m (elim under [
     | inl there ↦ flying Channel.Req m there
-    | inr there ↦ held Channel.Req m (buffered_requests h dev) (buffered_messages_fit setup opening t run h).0 there
+    | inr there ↦ held Channel.Req m (buffered_requests h dev) (buffered_messages_fit setup opening (events_of device t) (events_of_run setup opening device t run) h).0 there
   ]) under)
 
   -- each of RwD
   writes_owned : list_all (has_owner setup own) (writes_under_way h t) ≡ true
   writes_owned = all_under (in_flight h Channel.Rwd t) (buffered_writes h dev) (λ m under. on_rwd m (elim under [
     | inl there ↦ flying Channel.Rwd m there
-    | inr there ↦ held Channel.Rwd m (buffered_writes h dev) (buffered_messages_fit setup opening t run h).1 there
+    | inr there ↦ held Channel.Rwd m (buffered_writes h dev) (buffered_messages_fit setup opening (events_of device t) (events_of_run setup opening device t run) h).1 there
   ]) under)
 
   -- each of NDR

@@ -1,4 +1,4 @@
-// The law of every run on owners: everything that is open is in one place, and all that is under way belongs to something.
+//! The law of every run on owners: everything that is open is in one place, and all that is under way belongs to something.
 #![tactic(auto)]
 
 ghost use Rattle.owner_laws.specs.Owned.{RequestsArePlaced};

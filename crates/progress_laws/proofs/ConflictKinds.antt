@@ -25,7 +25,7 @@ use Rattle.request_laws.proofs.HostOperations.{Evicts, Hits, Operated, Requests,
 use Rattle.request_laws.proofs.HostTakes.{answer_row, block_row, conflict_row, take_row, takes_send_nothing, write_back_row}
 use Rattle.request_laws.proofs.OpenLines.{LeadBack, after_take, one_opens, open_leads_back, opening_line, take_keeps, two_open, victim_opens}
 use Rattle.request_laws.proofs.OwnRuns.{host_goes_on}
-use Rattle.request_laws.specs.OwnRuns.{is_own_run}
+use Rattle.coherence_model.specs.OwnRuns.{is_own_run}
 use Rattle.cxl_message.specs.Events.{line_of}
 
 -- what is open with the tag of an open conflict is such that a conflict is declared for it

@@ -31,7 +31,7 @@ use Rattle.request_laws.proofs.HostOperations.{Evicts, Hits, Operated, Requests,
 use Rattle.request_laws.proofs.OpenLines.{one_opens, opening_line, quiet_parts, two_open, victim_opens}
 use Rattle.request_laws.proofs.OwnRuns.{host_goes_on}
 use Rattle.request_laws.proofs.SnoopsKept.{counts_snooped, snooped_counts}
-use Rattle.request_laws.specs.OwnRuns.{is_own_run}
+use Rattle.coherence_model.specs.OwnRuns.{is_own_run}
 
 -- a snooped line at stage Late was completed
 abbrev pub LateIsCompleted : Configuration → List Event → Type 0

@@ -18,9 +18,9 @@ use Rattle.coherence_model.specs.Fitting.{out_fits}
 use Rattle.coherence_model.specs.Flight.{in_flight, is_on, sends_on, takes_on, without_taken}
 use Rattle.coherence_model.specs.Runs.{IsRun, is_allowed, is_run}
 use Rattle.coherence_lemmas.proofs.Allowed.{allowed_parts}
-use Rattle.coherence_lemmas.proofs.Codes.{same-channel_eq}
+use Rattle.cxl_message.proofs.SameNames.{same-channel_eq}
 use Rattle.coherence_lemmas.proofs.CreditsReach.{on_channel}
-use Rattle.coherence_lemmas.proofs.Messages.{message_eq-same}
+use Rattle.cxl_message.proofs.SameMessages.{message_eq-same}
 use Rattle.request_laws.proofs.Each.{Each, each_append, each_without_taken}
 
 -- a message of a channel, in the profile

@@ -41,14 +41,15 @@ use Rattle.coherence_model.specs.Transactions.{Kind, Transaction, open_after, op
 use Rattle.coherence_lemmas.proofs.Allowed.{AllowedParts, allowed_parts}
 use Rattle.coherence_lemmas.proofs.DeviceActs.{v3_serve-inv, v4_clean-inv, v5_start-inv, v6_evict-inv, v7_snoop-inv, v8_finish-inv, v9_return-inv}
 use Rattle.coherence_lemmas.proofs.CreditsReach.{on_channel}
-use Rattle.coherence_lemmas.proofs.Messages.{message_eq-same}
+use Rattle.cxl_message.proofs.SameMessages.{message_eq-same}
 use Rattle.coherence_lemmas.proofs.Rows.{device_row, device_take-inv, host_row}
 use Rattle.coherence_lemmas.proofs.TakesSendNothing.{device_takes_silent}
 use Rattle.request_laws.proofs.AllPlaces.{neither, only_sent, only_taken, other_events, own_events}
 use Rattle.request_laws.proofs.HostOperations.{Evicts, Hits, Operated, Requests, eviction_kind, kind_of, operated, request_opens}
 use Rattle.request_laws.proofs.OpenLines.{LeadBack, after_take, one_opens, open_leads_back, opening_line, take_keeps, two_open, victim_opens}
 use Rattle.request_laws.proofs.Counts.{any_counts}
-use Rattle.request_laws.proofs.OwnRuns.{events_of_run, host_is_no_device}
+use Rattle.coherence_model.proofs.OwnRuns.{events_of_run}
+use Rattle.request_laws.proofs.OwnRuns.{host_is_no_device}
 use Rattle.request_laws.proofs.Owners.{tasks_have_requests, unused_tags}
 use Rattle.progress_laws.proofs.Messages.{passes}
 

@@ -31,6 +31,7 @@ use Rattle.coherence_model.specs.Snoops.{Snoop, buffered_snoops, is_snooped}
 use Rattle.coherence_model.specs.Tasks.{Purpose, Task, task_covers}
 use Rattle.coherence_model.specs.Traces.{device, events_of}
 use Rattle.coherence_model.specs.Words.{one_if}
+use Rattle.coherence_model.proofs.OwnRuns.{events_of_run}
 use Rattle.coherence_lemmas.proofs.DeviceActs.{v4_clean-inv, v5_start-inv, v6_evict-inv, v7_snoop-inv, v8_finish-inv}
 use Rattle.coherence_lemmas.proofs.Options.{some_is}
 use Rattle.entry_laws.specs.Laws.{may_do, named_tag, request_may_go_on}
@@ -139,8 +140,8 @@ module _ (setup : Configuration) (opening : List (Line × Bytes64)) (limits : Is
   asked_by : (h a : ℕ) → h < setup.hosts → (q : SentSnoop) → sent_snoop_at h a dev ≡ Some q → (zs : List ℕ) → q.unanswered ≡ zs → 1 ≤ length zs → ⊥
   asked_by h a less q is [] lines some = omega arith
   asked_by h a less q is (b ∷ bs) lines some =
-      let of = snoops_have_tasks setup opening t run h a q is in
-      let placed = (tasks_are_placed setup opening t run a of.task of.stands).1 in
+      let of = snoops_have_tasks setup opening (events_of device t) (events_of_run setup opening device t run) h a q is in
+      let placed = (tasks_are_placed setup opening (events_of device t) (events_of_run setup opening device t run) a of.task of.stands).1 in
       let covered = covers_parts a of.task.span b (and_parts _ _ (subst (λ zs. list_all (covers a of.task.span) zs ≡ true) lines of.lines)).0 in
       let long = some_lines of.task.span in
       let none = none_unanswered h less b (omega arith) in
@@ -172,13 +173,13 @@ module _ (setup : Configuration) (opening : List (Line × Bytes64)) (limits : Is
 
   task_stuck : (a : ℕ) (task : Task) → (directory setup dev).task a ≡ Some task → ⊥
   task_stuck a task is =
-      let placed = (tasks_are_placed setup opening t run a task is).1 in
+      let placed = (tasks_are_placed setup opening (events_of device t) (events_of_run setup opening device t run) a task is).1 in
       let long = some_lines task.span in
       let empty = filter_empty (task_acts setup opening t) (λ b. is_some ((directory setup dev).task b)) 0 setup.lines a (tasks_empty setup opening limits t run stuck known) (omega arith) (omega arith) (ap is_some is) in
       let snoops = first_empty (flat_map (λ g. act_step setup opening t device (Act.Snoop g (record { 0 = a }))) (below setup.hosts)) (act_step setup opening t device (Act.Finish (record { 0 = a }))) empty in
       let finish = last_empty (flat_map (λ g. act_step setup opening t device (Act.Snoop g (record { 0 = a }))) (below setup.hosts)) (act_step setup opening t device (Act.Finish (record { 0 = a }))) empty in
       elim (or_cases (list_any (λ g. may_do setup opening dev (Act.Snoop g (record { 0 = a }))) (below setup.hosts)) (may_do setup opening dev (Act.Finish (record { 0 = a })))
-      (tasks_go_on setup opening t run a (ap is_some is) (below_all (λ g. not (is_asked g a dev)) setup.hosts (λ g less. not_from_false _ (not_asked g a less))))) [
+      (tasks_go_on setup opening (events_of device t) (events_of_run setup opening device t run) a (ap is_some is) (below_all (λ g. not (is_asked g a dev)) setup.hosts (λ g less. not_from_false _ (not_asked g a less))))) [
         | inl some ↦
             let g = any_below (λ g. may_do setup opening dev (Act.Snoop g (record { 0 = a }))) setup.hosts some in
             let w = some_is _ g.2 in
@@ -188,7 +189,7 @@ module _ (setup : Configuration) (opening : List (Line × Bytes64)) (limits : Is
         | inr done ↦
             let w = some_is _ done in
             let inv = v8_finish-inv setup opening a ((directory setup dev).task a) (directory setup dev) dev w.x w.found in
-            let less = ltb-true inv.t.host setup.hosts (tasks_are_named setup opening t run a inv.t inv.found).0 in
+            let less = ltb-true inv.t.host setup.hosts (tasks_are_named setup opening (events_of device t) (events_of_run setup opening device t run) a inv.t inv.found).0 in
             device_act_not setup opening t (Act.Finish (record { 0 = a })) w.x finish w.found
             (ap (λ (x : Emission). lacking_channel setup x.sends dev) inv.emits ∙ finish_paid setup inv.t.purpose _ inv.t.host inv.t.tag _ dev (ndr_credits inv.t.host less) (drs_credits inv.t.host less))
       ]
@@ -201,7 +202,7 @@ module _ (setup : Configuration) (opening : List (Line × Bytes64)) (limits : Is
   no_task a = task_by a ((directory setup dev).task a) refl
 
   pub not_busy : (a : ℕ) → is_busy (directory setup dev) a ≡ false
-  not_busy a = busy_lines_are_covered setup opening t run a ∙ none_below (λ first. task_covers a first ((directory setup dev).task first)) setup.lines (λ first less. ap (task_covers a first) (no_task first))
+  not_busy a = busy_lines_are_covered setup opening (events_of device t) (events_of_run setup opening device t run) a ∙ none_below (λ first. task_covers a first ((directory setup dev).task first)) setup.lines (λ first less. ap (task_covers a first) (no_task first))
 
   -- ---- no Req message is buffered
 
@@ -235,7 +236,7 @@ module _ (setup : Configuration) (opening : List (Line × Bytes64)) (limits : Is
 
   some_goes_on : list_any (λ h. nat_le 1 (length (buffered_requests h dev))) (below setup.hosts) ≡ true → ⊥
   some_goes_on some =
-      let any = some_request_goes_on setup opening limits t run (below_all (λ a. not (is_busy (directory setup dev) a)) setup.lines (λ a less. not_from_false _ (not_busy a))) some in
+      let any = some_request_goes_on setup opening limits (events_of device t) (events_of_run setup opening device t run) (below_all (λ a. not (is_busy (directory setup dev) a)) setup.lines (λ a less. not_from_false _ (not_busy a))) some in
       let found = any_below (λ h. list_any (request_may_go_on setup opening dev h) (buffered_requests h dev)) setup.hosts any in
       none_goes_on found.0 found.1 found.2
 

@@ -20,7 +20,7 @@ use Rattle.coherence_model.specs.Buffers.{buffered_requests}
 use Rattle.coherence_model.specs.Cache.{copy, first_idle, is_modified, is_writable, needs_victim, victim_way, ways}
 use Rattle.coherence_model.specs.Credits.{credits_left, credits_needed, lacking_channel}
 use Rattle.coherence_model.specs.Emission.{Emission, one_commit, one_send, two_sends}
-use Rattle.coherence_model.specs.FlatMemory.{line_after}
+use Rattle.cxl_message.specs.Stores.{line_after}
 use Rattle.coherence_model.specs.Fitting.{is_host}
 use Rattle.coherence_model.specs.HostOperations.{eviction_message, h1_hit, h2_request, hits, host_operates, request_alone, request_emission, request_evicting, request_message, request_with_victim}
 use Rattle.coherence_model.specs.Next.{event_with, next_steps}

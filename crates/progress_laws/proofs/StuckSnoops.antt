@@ -37,9 +37,10 @@ use Rattle.request_laws.proofs.AllConflicts.{conflicts_are_placed}
 use Rattle.request_laws.proofs.Conflicts.{conflicts_kept}
 use Rattle.request_laws.proofs.OpenPlaced.{open_lines_are_placed}
 use Rattle.request_laws.proofs.Owners.{write_backs_are_placed}
-use Rattle.request_laws.proofs.OwnRuns.{events_of_run, host_is_no_device}
+use Rattle.coherence_model.proofs.OwnRuns.{events_of_run}
+use Rattle.request_laws.proofs.OwnRuns.{host_is_no_device}
 use Rattle.request_laws.proofs.WriteBacks.{writes_kept}
-use Rattle.request_laws.specs.OwnRuns.{is_own_run}
+use Rattle.coherence_model.specs.OwnRuns.{is_own_run}
 use Rattle.request_laws.specs.Writes.{is_write_of}
 use Rattle.step_laws.proofs.Counts.{Each, each_find}
 use Rattle.progress_laws.proofs.LateStages.{late_is_completed}

@@ -21,7 +21,7 @@ use Rattle.coherence_model.specs.Tags.{is_conflict_open, is_conflict_with, open_
 use Rattle.coherence_model.specs.Traces.{device, events_of}
 use Rattle.coherence_model.specs.Transactions.{Kind, Transaction, open_at}
 use Rattle.coherence_model.specs.WriteBacks.{is_write_back_open}
-use Rattle.coherence_lemmas.proofs.Codes.{channel_eq-same}
+use Rattle.cxl_message.proofs.SameNames.{channel_eq-same}
 use Rattle.entry_laws.proofs.Laws.{buffered_messages_fit}
 use Rattle.request_laws.proofs.AllConflicts.{conflicts_counted}
 use Rattle.request_laws.proofs.AllPlaces.{placed}
@@ -29,7 +29,8 @@ use Rattle.request_laws.proofs.Balances.{Balanced, BalancedAs, here}
 use Rattle.request_laws.proofs.Conflicts.{conflicts_kept}
 use Rattle.request_laws.proofs.Counts.{any_counts, count_by-cons}
 use Rattle.request_laws.proofs.HostPlaces.{tagged}
-use Rattle.request_laws.proofs.OwnRuns.{events_of_run, host_is_no_device}
+use Rattle.coherence_model.proofs.OwnRuns.{events_of_run}
+use Rattle.request_laws.proofs.OwnRuns.{host_is_no_device}
 use Rattle.request_laws.proofs.Places.{is_write_of, write_back_at}
 use Rattle.progress_laws.proofs.ConflictKinds.{conflicts_are_declared}
 use Rattle.progress_laws.proofs.Messages.{IsOf, all_on, each_there, flying_of, passes}
@@ -126,7 +127,7 @@ module _ (setup : Configuration) (opening : List (Line × Bytes64)) (h : ℕ) (n
 
   write_row : list_any (has_tag tag) (in_flight h Channel.Rwd t) ≡ true → list_all (λ m. channel_eq (channel_of m) Channel.Rwd) (in_flight h Channel.Rwd t) ≡ true → is_some (v1_take tag (buffered_writes h (events_of device t))) ≡ true
   write_row there flying =
-      let held = on_rwd setup h (buffered_writes h (events_of device t)) (buffered_messages_fit setup opening t run h).1 in
+      let held = on_rwd setup h (buffered_writes h (events_of device t)) (buffered_messages_fit setup opening (events_of device t) (events_of_run setup opening device t run) h).1 in
       let some = any_counts (has_tag tag) (in_flight h Channel.Rwd t) there in
       let in_flight_two = tagged_writes tag (in_flight h Channel.Rwd t) flying in
       let held_two = tagged_writes tag (buffered_writes h (events_of device t)) held in

@@ -8,6 +8,7 @@ use Rattle.cxl_message.specs.declared.opcodes.NdrOp.{NdrOp}
 use Rattle.cxl_message.specs.Messages.{message_eq}
 use Rattle.coherence_model.specs.Flight.{in_flight}
 use Rattle.coherence_model.specs.HostActs.{may_conflict}
+use Rattle.coherence_model.specs.OwnRuns.{ForEachHostRun}
 use Rattle.coherence_model.specs.Snoops.{is_snooped}
 use Rattle.coherence_model.specs.Stages.{Stage, stage, was_completed}
 use Rattle.coherence_model.specs.Tags.{is_conflict_open}
@@ -24,8 +25,7 @@ SharedGrantsMeetReads =
 -- what is open with the tag of an open conflict is no MemWr
 abbrev pub ConflictTagsOpenNoWrite : Type 0
 ConflictTagsOpenNoWrite =
-    ForEachHost (λ setup opening t h. (a : ℕ) (o : Transaction) → open_at a (events_of h t) ≡ Some o → is_conflict_open o.tag (events_of h t) ≡ true
-    → may_conflict o.kind ≡ true)
+    ForEachHostRun (λ setup h mine. (a : ℕ) (o : Transaction) → open_at a mine ≡ Some o → is_conflict_open o.tag mine ≡ true → may_conflict o.kind ≡ true)
 
 -- what is open wasn't granted, or is a read without its MemData
 abbrev pub OpenLinesWait : Type 0
@@ -34,5 +34,4 @@ OpenLinesWait = (mine : List Event) (a : ℕ) (o : Transaction) → open_at a mi
 -- a snooped line at stage Late has no request that wasn't granted
 abbrev pub LateLinesWereCompleted : Type 0
 LateLinesWereCompleted =
-    ForEachHost (λ setup opening t h. (a : ℕ) → is_snooped a (events_of h t) ≡ true → stage setup a (events_of h t) ≡ Stage.Late
-    → was_completed (open_at a (events_of h t)) ≡ true)
+    ForEachHostRun (λ setup h mine. (a : ℕ) → is_snooped a mine ≡ true → stage setup a mine ≡ Stage.Late → was_completed (open_at a mine) ≡ true)

@@ -1,5 +1,5 @@
-// Laws of progress after every run: what may be taken from a channel has its row's condition, and where something is pending some
-// step is next.
+//! Laws of progress after every run: what may be taken from a channel has its row's condition, and where something is pending some
+//! step is next.
 #![tactic(auto)]
 
 ghost use Rattle.cxl_message.specs.declared.channels.Channel.{Channel};
@@ -37,15 +37,16 @@ pub fn operations_may_begin()
 {}
 
 /// After every run of a setup within its limits, a Cmp-S in flight has the Tag of an open MemRd Shared, where something is open with
-/// it: the device grants no other request so (CXL 3.1, chapter 3: Cmp-S). What is open with the Tag of an open conflict is no MemWr
-/// (own rule: a MemWr declares none, and a Tag in use isn't taken again).
+/// it: the device grants no other request so (CXL 3.1, chapter 3: Cmp-S). By each list of a host's own events that
+/// its rules allow, what is open with the Tag of an open conflict is no MemWr (own rule: a MemWr declares none, and a Tag in use
+/// isn't taken again).
 pub fn tags_are_used_rightly()
     ensures grants { SharedGrantsMeetReads }
     ensures conflicts { ConflictTagsOpenNoWrite }
 {}
 
-/// What a host has open waits for its grant, or is a read that waits for its MemData: with both it is filled. After every run of a
-/// setup within its limits, a snooped line whose conflict ended late has no request that wasn't granted (CXL 3.1, chapter 3: late
+/// What a host has open waits for its grant, or is a read that waits for its MemData: with both it is filled. By each list of
+/// a host's own events that its rules allow, in a setup within its limits, a snooped line whose conflict ended late has no request that wasn't granted (CXL 3.1, chapter 3: late
 /// conflict; own rule: no operation begins for a snooped line).
 pub fn open_lines_wait()
     ensures waiting { OpenLinesWait }

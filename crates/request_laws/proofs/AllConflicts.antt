@@ -24,7 +24,8 @@ use Rattle.request_laws.proofs.ConflictPlaces.{ConflictIs, device_conflict, host
 use Rattle.request_laws.proofs.Conflicts.{conflicts_kept}
 use Rattle.request_laws.proofs.Counts.{count_by-append}
 use Rattle.request_laws.proofs.OpenLines.{open_leads_back}
-use Rattle.request_laws.proofs.OwnRuns.{events_of_run, host_is_no_device}
+use Rattle.coherence_model.proofs.OwnRuns.{events_of_run}
+use Rattle.request_laws.proofs.OwnRuns.{host_is_no_device}
 use Rattle.request_laws.specs.PlaceLaws.{ConflictsArePlaced, OtherConflictsAreNowhere}
 
 -- a tag's conflict, by a host's own events, the device's, and the messages in flight

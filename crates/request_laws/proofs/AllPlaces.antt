@@ -26,7 +26,7 @@ use Rattle.coherence_lemmas.proofs.Rows.{host_row}
 use Rattle.request_laws.proofs.DeviceCauses.{WasThere, device_places}
 use Rattle.request_laws.proofs.HostPlaces.{Taken, cause_places}
 use Rattle.request_laws.proofs.OpenLines.{open_leads_back}
-use Rattle.request_laws.proofs.OwnRuns.{events_of_run}
+use Rattle.coherence_model.proofs.OwnRuns.{events_of_run}
 use Rattle.request_laws.proofs.Places.{Here, write_back_at}
 
 -- the places of a tag, by a host's own events, the device's, and the messages in flight

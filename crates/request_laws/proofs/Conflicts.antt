@@ -35,7 +35,7 @@ use Rattle.request_laws.proofs.OpenLines.{LeadBack, one_tags, open_leads_back, t
 use Rattle.request_laws.proofs.Options.{when_some}
 use Rattle.request_laws.proofs.OwnRuns.{host_goes_on}
 use Rattle.request_laws.proofs.SnoopsKept.{SnoopsKept, is_held, not_snooped, snooped_counts, snoops_kept, stays_snooped, take_stays}
-use Rattle.request_laws.specs.OwnRuns.{is_own_run}
+use Rattle.coherence_model.specs.OwnRuns.{is_own_run}
 
 -- a line that is Asked with a tag: the tag leads back to it, it is snooped, and the tag's conflict is open
 pub record Asks (setup : Configuration) (a t : ℕ) (tagged : Option ℕ) (count : ℕ) (conflict : Bool) : Type 0 where

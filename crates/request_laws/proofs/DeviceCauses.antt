@@ -27,7 +27,7 @@ use Rattle.coherence_model.specs.Transactions.{Transaction}
 use Rattle.coherence_model.specs.Words.{with_last}
 use Rattle.coherence_model.specs.WriteBacks.{completes}
 use Rattle.coherence_lemmas.proofs.DeviceActs.{v3_serve-inv, v4_clean-inv, v5_start-inv, v6_evict-inv, v7_snoop-inv, v8_finish-inv, v9_return-inv}
-use Rattle.coherence_lemmas.proofs.Messages.{message_eq-same}
+use Rattle.cxl_message.proofs.SameMessages.{message_eq-same}
 use Rattle.coherence_lemmas.proofs.Rows.{device_take-inv}
 use Rattle.coherence_lemmas.proofs.TakesSendNothing.{device_takes_silent}
 use Rattle.request_laws.proofs.Balances.{balance_as}

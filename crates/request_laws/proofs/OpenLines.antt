@@ -29,7 +29,7 @@ use Rattle.request_laws.proofs.HostOperations.{Alone, Evicting, Evicts, Hits, Op
 use Rattle.request_laws.proofs.Options.{option_or-assoc}
 use Rattle.request_laws.proofs.OwnRuns.{host_goes_on, host_is_no_device}
 use Rattle.request_laws.specs.HostLaws.{OpenTagsAreDistinct, OpenTagsLeadBack}
-use Rattle.request_laws.specs.OwnRuns.{is_own_run}
+use Rattle.coherence_model.specs.OwnRuns.{is_own_run}
 
 -- what is open by line and which line a tag took last, as any two functions: the tag of what is open leads back to its line
 pub record LeadsBack (setup : Configuration) (tagged : ℕ → Option ℕ) (a : ℕ) (o : Transaction) : Type 0 where

@@ -23,7 +23,8 @@ use Rattle.request_laws.proofs.Balances.{BalancedAs, balance_as, balance_of, bal
 use Rattle.request_laws.proofs.Counts.{count_by-append, count_by-cons}
 use Rattle.request_laws.proofs.Each.{Each, each_append, each_weaker}
 use Rattle.request_laws.proofs.OpenLines.{open_leads_back, tagged_found}
-use Rattle.request_laws.proofs.OwnRuns.{events_of_run, host_is_no_device}
+use Rattle.coherence_model.proofs.OwnRuns.{events_of_run}
+use Rattle.request_laws.proofs.OwnRuns.{host_is_no_device}
 use Rattle.request_laws.proofs.Places.{OwnRequest, OwnWrite, is_write_of, task_at}
 use Rattle.request_laws.specs.PlaceLaws.{OpenLinesArePlaced}
 

@@ -21,7 +21,8 @@ use Rattle.request_laws.proofs.Counts.{count_by-append}
 use Rattle.request_laws.proofs.HostPlaces.{nothing_has, tagged}
 use Rattle.request_laws.proofs.OpenLines.{open_leads_back, tagged_found}
 use Rattle.request_laws.proofs.OpenPlaced.{requests_named}
-use Rattle.request_laws.proofs.OwnRuns.{events_of_run, host_is_no_device}
+use Rattle.coherence_model.proofs.OwnRuns.{events_of_run}
+use Rattle.request_laws.proofs.OwnRuns.{host_is_no_device}
 use Rattle.request_laws.proofs.Places.{is_write_of}
 use Rattle.request_laws.specs.PlaceLaws.{OtherWriteBacksAreNowhere, RequestsNameTheirLine, TasksHaveRequests, UnusedTagsAreNowhere, WriteBacksArePlaced}
 

@@ -26,7 +26,7 @@ use Rattle.request_laws.proofs.Counts.{all_holds, times, times-lines}
 use Rattle.request_laws.proofs.HostTakes.{answer_row, block_row, take_row}
 use Rattle.request_laws.proofs.Options.{when_some}
 use Rattle.request_laws.proofs.OwnRuns.{host_goes_on}
-use Rattle.request_laws.specs.OwnRuns.{is_own_run}
+use Rattle.coherence_model.specs.OwnRuns.{is_own_run}
 
 -- the snoops are sound, and no line is in them twice
 pub record SnoopsKept (ss : List Snoop) : Type 0 where

@@ -17,7 +17,7 @@ use Rattle.coherence_model.specs.Traces.{events_of}
 use Rattle.coherence_model.specs.Transactions.{Kind, Transaction, is_read, is_request}
 use Rattle.coherence_model.specs.Words.{when}
 use Rattle.coherence_model.specs.WriteBacks.{completes, is_write_back_open}
-use Rattle.coherence_lemmas.proofs.Messages.{message_eq-same}
+use Rattle.cxl_message.proofs.SameMessages.{message_eq-same}
 use Rattle.request_laws.proofs.AllConflicts.{conflicts_counted}
 use Rattle.request_laws.proofs.AllPlaces.{placed}
 use Rattle.request_laws.proofs.Balances.{Balanced, BalancedAs, here}

@@ -6,8 +6,8 @@ use Rattle.std.proofs.lemmas.Bool.{and_parts, eqb-true, false≢true, not-true, 
 use Rattle.std.proofs.lemmas.Bool.Decides.{nat_tests}
 use Rattle.cxl_message.specs.declared.opcodes.Span.{Span}
 use Rattle.cxl_message.specs.Lists.{is_in}
-use Rattle.cxl_message.specs.Spans.{covers}
-use Rattle.coherence_model.specs.Directory.{Directory, aligned, block_around, is_busy, may_evict, may_evict_block, victim_block}
+use Rattle.cxl_message.specs.Spans.{aligned, covers}
+use Rattle.coherence_model.specs.Directory.{Directory, block_around, is_busy, may_evict, may_evict_block, victim_block}
 use Rattle.coherence_model.specs.DirectoryChanges.{with_task}
 use Rattle.coherence_model.specs.RequestFacts.{is_task_of}
 use Rattle.coherence_model.specs.Tasks.{Task, task_covers}

@@ -26,7 +26,7 @@ use Rattle.request_laws.proofs.HostTakes.{conflict_row, take_row, write_back_row
 use Rattle.request_laws.proofs.Options.{when_some}
 use Rattle.request_laws.proofs.OwnRuns.{host_goes_on}
 use Rattle.request_laws.proofs.SnoopsKept.{SnoopsKept, is_held, snooped_counts, snoops_kept, stays_snooped}
-use Rattle.request_laws.specs.OwnRuns.{is_own_run}
+use Rattle.coherence_model.specs.OwnRuns.{is_own_run}
 
 -- a line at stage Writing is snooped, and the write-back tag is in use
 pub record Writes (setup : Configuration) (a : ℕ) (count : ℕ) (writing : Bool) : Type 0 where

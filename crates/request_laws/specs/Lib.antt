@@ -1,4 +1,3 @@
-pub mod OwnRuns
 pub mod HostLaws
 pub mod Writes
 pub mod PlaceLaws

@@ -5,7 +5,6 @@ ghost use Rattle.request_laws.specs.HostLaws.{
   AskedLinesAreSnooped,
   ConflictTagsAreOwn,
   ConflictsHaveLines,
-  EventsOfRunAreOwnRun,
   NoLineIsSnoopedTwice,
   OpenTagsAreDistinct,
   OpenTagsLeadBack,
@@ -27,12 +26,6 @@ ghost use Rattle.request_laws.specs.PlaceLaws.{
   UnusedTagsAreNowhere,
   WriteBacksArePlaced,
 };
-
-/// The events of each agent in a run are such as that agent's own rules allow: profile, stream order and row look at an agent's
-/// own events alone (own rule).
-pub fn own_events_are_allowed()
-    ensures events { EventsOfRunAreOwnRun }
-{}
 
 /// The tags of a host's open lines are below the setup's tags and distinct, and each leads back to its line: an operation takes
 /// tags that aren't in use (CXL 3.1, chapter 3: Tag; own rule: the lowest free ones).

@@ -1,5 +1,5 @@
-// The work that `bench/run` times: the text of a script of many lines is copied, parsed, or printed again, as many rounds
-// as are asked for.
+//! The work that `bench/run` times: the text of a script of many lines is copied, parsed, or printed again, as many rounds
+//! as are asked for.
 #![tactic(auto)]
 
 mod texts;

@@ -121,6 +121,7 @@ opened s line bytes h are e =
     let parts = and_parts _ _ order.0 in
     record {
       setup = h.setup;
+      tags = h.tags;
       room = h.room;
       opening = opening_added s.opening (record { 0 = line }) bytes h.opening parts.0 (not-true _ parts.1);
       opening_lines = all_push _ s.opening (record { 0 = line }, bytes) h.opening_lines range.0;
@@ -155,6 +156,7 @@ streamed s host h e =
     let count : operation_count (s.operations ++ [] ∷ []) ≤ 65536 = omega (arith, sum_by_push length s.operations [], h.operation_count) in
     record {
       setup = within;
+      tags = h.tags;
       room = h.room;
       opening = h.opening;
       opening_lines = h.opening_lines;
@@ -171,6 +173,7 @@ operated s op h takes fits few =
     let count : operation_count (with_op s.operations op) ≤ 65536 = omega (arith, count-with_op s.operations op (omega (arith, h.streams, some.0))) in
     record {
       setup = h.setup;
+      tags = h.tags;
       room = h.room;
       opening = h.opening;
       opening_lines = h.opening_lines;
@@ -184,6 +187,7 @@ operated s op h takes fits few =
 picked : (s : ScriptValue) (pick : ℕ) → IsScript s → nat_le pick 65535 ≡ true → IsScript (with_line s (ScriptLine.Pick pick))
 picked s pick h small = record {
   setup = h.setup;
+  tags = h.tags;
   room = h.room;
   opening = h.opening;
   opening_lines = h.opening_lines;

@@ -134,7 +134,7 @@ same_Ok x y e = cc
 head_read : (text : List ℕ) (at : ℕ) (reason : ScriptReason) (h : FailsInBody text at reason) → head_at text ≡ Ok (bare h.script.setup, h.script.room, text_of (body_lines h.script) ++ h.rest)
 unfolding script_bytes
 head_read text at reason h =
-    ap head_at (h.begins ∙ append_assoc (head_bytes h.script) (text_of (body_lines h.script)) h.rest) ∙ head_again h.script (text_of (body_lines h.script) ++ h.rest) h.is.setup h.is.room
+    ap head_at (h.begins ∙ append_assoc (head_bytes h.script) (text_of (body_lines h.script)) h.rest) ∙ head_again h.script (text_of (body_lines h.script) ++ h.rest) h.is.setup h.is.tags h.is.room
 
 -- two failures of one text are one
 abbrev IsOne : ℕ → ℕ → ScriptReason → ScriptReason → Type 0
@@ -184,7 +184,7 @@ spelled_compared text at reason h s is begun (left_beyond b) = not_begun b.line 
 body_spells_none : (text : List ℕ) (at : ℕ) (reason : ScriptReason) → FailsInBody text at reason → SpellsNone text
 unfolding script_bytes
 body_spells_none text at reason h s is e =
-    let read = ap head_at e ∙ head_again s (text_of (body_lines s)) is.setup is.room in
+    let read = ap head_at e ∙ head_again s (text_of (body_lines s)) is.setup is.tags is.room in
     let both = same_Ok _ _ (sym (head_read text at reason h) ∙ read) in
     let begun : start (bare h.script.setup) h.script.room ≡ start (bare s.setup) s.room = ap (λ (x : Configuration × ℕ × List ℕ). start x.0 x.1) both in
     let texts : text_of (body_lines h.script) ++ h.rest ≡ text_of (body_lines s) = ap (λ (x : Configuration × ℕ × List ℕ). x.2) both in

@@ -117,16 +117,16 @@ bare c = without_streams c.hosts c.lines c.entries c.ways c.tags c.credits
 abbrev pub start : Configuration → ℕ → ScriptValue
 start c room = record { setup = c; room = room; opening = []; operations = []; picks = [] }
 
-pub head_again : (s : ScriptValue) (rest : List ℕ) → IsWithinLimits s.setup → (1 ≤ s.room) × (s.room ≤ 200000) → head_at (head_bytes s ++ rest) ≡ Ok (bare s.setup, s.room, rest)
+pub head_again : (s : ScriptValue) (rest : List ℕ) → IsWithinLimits s.setup → s.setup.tags ≤ 64 → (1 ≤ s.room) × (s.room ≤ 200000) → head_at (head_bytes s ++ rest) ≡ Ok (bare s.setup, s.room, rest)
 unfolding head_at
-head_again s rest h room =
+head_again s rest h few room =
     ap head_at (onto_is (settings s) rest)
     ∙ rw (
       number_line_again 1 (codes "hosts") 1 16 s.setup.hosts _ refl refl (omega arith) h.hosts.0 h.hosts.1,
       number_line_again 2 (codes "lines") 1 65536 s.setup.lines _ refl refl (omega arith) h.lines.0 h.lines.1,
       number_line_again 3 (codes "filter") 1 4096 s.setup.entries _ refl refl (omega arith) h.entries.0 h.entries.1,
       number_line_again 4 (codes "ways") 1 256 s.setup.ways _ refl refl (omega arith) h.ways.0 h.ways.1,
-      number_line_again 5 (codes "tags") 2 64 s.setup.tags _ refl refl (omega arith) h.tags.0 h.tags.1,
+      number_line_again 5 (codes "tags") 2 64 s.setup.tags _ refl refl (omega arith) h.tags.0 few,
       number_line_again 6 (codes "credits") 2 64 s.setup.credits _ refl refl (omega arith) h.credits.0 h.credits.1,
       number_line_again 7 (codes "room") 1 200000 s.room _ refl refl (omega arith) room.0 room.1,
     ) refl
@@ -137,8 +137,8 @@ start_is : (a b c d f g h : ℕ) → (1 ≤ a) × (a ≤ 16) → (1 ≤ b) × (b
 start_is a b c d f g h hosts lines entries ways tags credits room =
     let none : 0 ≤ 64 = omega arith in
     let no_operations : 0 ≤ 65536 = omega arith in
-    let within : IsWithinLimits (without_streams a b c d f g) = record { hosts = hosts; lines = lines; entries = entries; ways = ways; tags = tags; credits = credits; streams = none; stream_hosts = refl } in
-    record { setup = within; room = room; opening = record { ascending = refl; not_zero = refl }; opening_lines = refl; opening_bytes = refl; streams = refl; operations = refl; operation_count = no_operations; picks = refl }
+    let within : IsWithinLimits (without_streams a b c d f g) = record { hosts = hosts; lines = lines; entries = entries; ways = ways; tags = (tags.0, omega (arith, tags.1)); credits = credits; streams = none; stream_hosts = refl } in
+    record { setup = within; tags = tags.1; room = room; opening = record { ascending = refl; not_zero = refl }; opening_lines = refl; opening_bytes = refl; streams = refl; operations = refl; operation_count = no_operations; picks = refl }
 
 -- their text
 start_text : (a b c d f g h : ℕ) (text t1 t2 t3 t4 t5 t6 t7 : List ℕ) → text ≡ setting (codes "hosts") a ++ t1 → t1 ≡ setting (codes "lines") b ++ t2 → t2 ≡ setting (codes "filter") c ++ t3

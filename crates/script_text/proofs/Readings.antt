@@ -13,6 +13,7 @@ use Rattle.script_text.specs.Spelling.{body_lines, stream_lines, line_bytes, lin
 use Rattle.script_text.specs.Script.{IsScript}
 use Rattle.script_text.specs.Lines.{first_line}
 use Rattle.script_text.specs.Head.{head_at}
+use Rattle.script_text.specs.Laws.{TextsSpellOneScript}
 use Rattle.script_text.specs.Refusals.{IfBad, line_refusal, with_line}
 use Rattle.script_text.proofs.LineLaws.{first_again, first_take}
 use Rattle.script_text.proofs.HeadLaws.{bare, start, head_again, head_take}
@@ -83,8 +84,8 @@ record Left (d s : ScriptValue) (rest : List ℕ) : Type 0 where
 left : (bytes : List ℕ) (d : ScriptValue) (rest : List ℕ) (s : ScriptValue) → Reads bytes d rest → IsScript s → bytes ≡ script_bytes s → Left d s rest
 unfolding script_bytes
 left bytes d rest s h is e =
-    let mine = head_again d (text_of (body_lines d) ++ rest) h.script.setup h.script.room in
-    let other = head_again s (text_of (body_lines s)) is.setup is.room in
+    let mine = head_again d (text_of (body_lines d) ++ rest) h.script.setup h.script.tags h.script.room in
+    let other = head_again s (text_of (body_lines s)) is.setup is.tags is.room in
     let same : (bare d.setup, d.room, text_of (body_lines d) ++ rest) ≡ (bare s.setup, s.room, text_of (body_lines s)) = same_Ok _ _ (sym mine ∙ ap head_at (sym h.text ∙ e) ∙ other) in
     let begun : start (bare d.setup) d.room ≡ start (bare s.setup) s.room = ap (λ (x : Configuration × ℕ × List ℕ). start x.0 x.1) same in
     let texts : text_of (body_lines d) ++ rest ≡ text_of (body_lines s) = ap (λ (x : Configuration × ℕ × List ℕ). x.2) same in
@@ -128,7 +129,7 @@ stops_at_refused bytes d rest l after reason h first refused s is e = let x = le
 pub stops_in_head : (bytes : List ℕ) (refusal : ScriptRefusal) → head_at bytes ≡ Err refusal → SpellsNone bytes
 unfolding script_bytes
 stops_in_head bytes refusal refused s is e =
-    let read = head_again s (text_of (body_lines s)) is.setup is.room in
+    let read = head_again s (text_of (body_lines s)) is.setup is.tags is.room in
     let both : ◌≡◌ {A = Result (Configuration × ℕ × List ℕ) ScriptRefusal} (Err refusal) (Ok (bare s.setup, s.room, text_of (body_lines s))) = sym refused ∙ ap head_at e ∙ read in
     absurd cc
 
@@ -139,6 +140,13 @@ nothing_left d s (m ∷ ms) e spelled runs = absurd (none-some _ (sym nothing_fi
 -- the bytes spell no other script
 pub reads_only : (bytes : List ℕ) (d : ScriptValue) → Reads bytes d [] → (s : ScriptValue) → IsScript s → bytes ≡ script_bytes s → s ≡ d
 reads_only bytes d h s is e = let l = left bytes d [] s h is e in nothing_left d s l.more l.text l.spelled l.runs
+
+-- a text is spelled by one script at most
+pub texts_spell_one_script : TextsSpellOneScript
+unfolding script_bytes
+texts_spell_one_script text s other is same e f =
+    let reads : Reads text other [] = record { text = f ∙ ap (λ (x : List ℕ). head_bytes other ++ x) (sym (append-nil (text_of (body_lines other)))); script = same } in
+    reads_only text other reads s is e
 
 -- what is left is no longer than all
 pub left_within : (bytes : List ℕ) (d : ScriptValue) (rest : List ℕ) → Reads bytes d rest → length rest ≤ length bytes

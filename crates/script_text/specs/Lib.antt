@@ -6,3 +6,4 @@ pub mod Lines
 pub mod Head
 pub mod Drafts
 pub mod Failures
+pub mod Laws

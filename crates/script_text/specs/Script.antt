@@ -22,9 +22,10 @@ op_fits lines (Op.Whole line bytes) = nat_lt line.0 lines && are_line_bytes byte
 abbrev pub operation_count : List (List Op) → ℕ
 operation_count operations = sum_by length operations
 
--- every number of a script is within its limits, its opening is one, and each stream has its operations
+-- every number of a script is within its limits, of which that of its tags is 64, its opening is one, and each stream has its operations
 pub record IsScript (s : ScriptValue) : Type 0 where
   pub setup : IsWithinLimits s.setup
+  pub tags : s.setup.tags ≤ 64
   pub room : (1 ≤ s.room) × (s.room ≤ 200000)
   pub opening : IsOpening s.opening
   pub opening_lines : IsTrue (opening_fits s.setup.lines s.opening)

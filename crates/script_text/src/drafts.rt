@@ -216,6 +216,6 @@ fn with_stream(setup: &Setup, host: u8) -> Setup
         &hosts[..count + 1],
     ) {
         Ok(setup) => setup,
-        Err(_) => unreachable!(),
+        Err(_) => unreachable!("one more stream of a host that there is, after at most 63"),
     }
 }

@@ -26,12 +26,12 @@ pub fn head_of(text: &[u8]) -> Result<(Setup, u32, &[u8]), ScriptRefusal>
         lines,
         entries as u16,
         ways as u16,
-        tags as u8,
+        tags as u16,
         credits as u8,
         &[],
     ) {
         Ok(setup) => Ok((setup, room, text)),
-        Err(_) => unreachable!(),
+        Err(_) => unreachable!("each number was read within its limits"),
     }
 }
 

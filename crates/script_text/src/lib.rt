@@ -1,4 +1,8 @@
-// Scripts as text: a machine, what its memory holds at first, and what its streams do. The grammar is an own rule.
+//! Scripts as text: a machine, what its memory holds at first, and what its streams do. A text that `parse_script` takes
+//! spells that script and no other; one that it refuses spells none, and fails first at the line and for the reason that it
+//! answers.
+//!
+//! The grammar is this project's own and no statement about the CXL standard.
 #![tactic(auto)]
 
 mod drafts;
@@ -11,7 +15,7 @@ mod refusals;
 mod scripts;
 mod words;
 
-pub use laws::failures_are_alone;
+pub use laws::{failures_are_alone, texts_spell_one_script};
 pub use parsing::parse_script;
 pub use printing::print_script;
 pub use refusals::{ScriptReason, ScriptRefusal};

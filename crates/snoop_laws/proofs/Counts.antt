@@ -12,7 +12,7 @@ use Rattle.cxl_message.specs.Lists.{without}
 use Rattle.cxl_message.specs.Messages.{message_eq}
 use Rattle.cxl_message.specs.Spans.{covers, lines_of}
 use Rattle.coherence_model.specs.Flight.{without_first}
-use Rattle.coherence_lemmas.proofs.Messages.{message_eq-same}
+use Rattle.cxl_message.proofs.SameMessages.{message_eq-same}
 use Rattle.coherence_lemmas.proofs.Queues.{count-without_taken, counts}
 
 pub count-cons : {X : Type 0} (p : X → Bool) (x : X) (xs : List X) → count_by p (x ∷ xs) ≡ cond (p x) 1 0 + count_by p xs

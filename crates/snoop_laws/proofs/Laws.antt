@@ -28,7 +28,7 @@ use Rattle.coherence_model.specs.Words.{when}
 use Rattle.coherence_lemmas.proofs.Options.{some_is}
 use Rattle.entry_laws.proofs.DirectorySteps.{DirectoryKept}
 use Rattle.entry_laws.proofs.Kept.{directory_is_kept}
-use Rattle.entry_laws.proofs.OwnRuns.{device_run}
+use Rattle.coherence_model.proofs.OwnRuns.{events_of_run}
 use Rattle.snoop_laws.proofs.AnswerSteps.{found_snoop, held_is_left, line_left}
 use Rattle.snoop_laws.proofs.Counts.{Among, among_counts, any_counts, counts_any, found_among, times, times-lines}
 use Rattle.snoop_laws.proofs.Parts.{part_covered}
@@ -83,7 +83,7 @@ module _ (setup : Configuration) (opening : List (Line × Bytes64)) (t : List Ev
   -- the task of a snoop covers each line that is left
   covering : (f a : ℕ) (q : SentSnoop) → asked f ≡ Some q → 1 ≤ times a (left_of (asked f)) → (fits : SnoopFits (directory setup (events_of device t)).task f q) × (covers f fits.t.span a ≡ true)
   covering f a q is some =
-      let fits = snoops_fit setup (events_of device t) (device_run setup opening t run) h f q is in
+      let fits = snoops_fit setup opening (events_of device t) (events_of_run setup opening device t run) h f q is in
       (fits, subst (λ s. covers f s a ≡ true) fits.span (part_covered a f q.span q.unanswered fits.part (subst (λ o. 1 ≤ times a (left_of o)) is some)))
 
   -- two snoops that have a line are one
@@ -93,7 +93,7 @@ module _ (setup : Configuration) (opening : List (Line × Bytes64)) (t : List Ev
       let q = some_left a (asked g) second in
       let cover_f = covering f a p.0 p.1 first in
       let cover_g = covering g a q.0 q.1 second in
-      let kept : DirectoryKept setup (directory setup (events_of device t)) (λ k b. sent_snoop_at k b (events_of device t)) = directory_is_kept setup (events_of device t) (device_run setup opening t run) in
+      let kept : DirectoryKept setup (directory setup (events_of device t)) (λ k b. sent_snoop_at k b (events_of device t)) = directory_is_kept setup opening (events_of device t) (events_of_run setup opening device t run) in
       kept.tasks.apart f g a cover_f.0.t cover_g.0.t cover_f.0.stands cover_g.0.stands cover_f.1 cover_g.1
 
   -- ---- a snoop in flight

@@ -25,7 +25,7 @@ use Rattle.coherence_lemmas.proofs.Allowed.{AllowedParts, allowed_parts}
 use Rattle.coherence_lemmas.proofs.Channels.{sends_nothing}
 use Rattle.coherence_lemmas.proofs.Flight.{others_take_nothing, taken_is_there}
 use Rattle.coherence_lemmas.proofs.Rows.{device_row, host_row}
-use Rattle.entry_laws.proofs.OwnRuns.{device_run}
+use Rattle.coherence_model.proofs.OwnRuns.{events_of_run}
 use Rattle.snoop_laws.proofs.DeviceEvents.{device_event}
 use Rattle.snoop_laws.proofs.HostEvents.{host_event}
 use Rattle.snoop_laws.proofs.Places.{AreSent, Placed}
@@ -41,7 +41,7 @@ host_is_no_device setup limits h host =
 -- the snoops that were sent have some of their lines left
 pub are_sent : (setup : Configuration) (opening : List (Line × Bytes64)) (t : List Event) → IsRun setup opening t → (h : ℕ) → AreSent (λ f. sent_snoop_at h f (events_of device t))
 are_sent setup opening t run h f q asked =
-    let fits = snoops_fit setup (events_of device t) (device_run setup opening t run) h f q asked in
+    let fits = snoops_fit setup opening (events_of device t) (events_of_run setup opening device t run) h f q asked in
     record { part = fits.part; some = fits.some }
 
 -- the places of the lines of a host's snoops

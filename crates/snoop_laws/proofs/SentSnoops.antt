@@ -22,12 +22,16 @@ use Rattle.coherence_model.specs.DirectoryChanges.{directory, directory_after, d
 use Rattle.coherence_model.specs.SentSnoops.{SentSnoop, is_asked, sent_snoop_after, sent_snoop_at, snoop_after_response, snoop_by_sends, still_asking}
 use Rattle.coherence_model.specs.Tasks.{Task}
 use Rattle.coherence_model.specs.Traces.{device, events_of}
+use Rattle.coherence_model.specs.OwnRuns.{IsOwnRun}
+use Rattle.cxl_message.specs.declared.identifiers.Bytes64.{Bytes64}
+use Rattle.cxl_message.specs.declared.identifiers.Line.{Line}
 use Rattle.entry_laws.proofs.Blocks.{all_below, covers_first}
 use Rattle.entry_laws.proofs.DeviceRows.{DeviceRow, FinishRow, StartRow}
 use Rattle.entry_laws.proofs.DirectorySteps.{DirectoryKept}
 use Rattle.entry_laws.proofs.Entries.{victim_evictable}
 use Rattle.entry_laws.proofs.Kept.{directory_is_kept}
-use Rattle.entry_laws.proofs.OwnRuns.{DeviceRun, device_run}
+use Rattle.coherence_model.proofs.OwnRuns.{events_of_run}
+use Rattle.entry_laws.proofs.OwnRuns.{device_event}
 use Rattle.entry_laws.proofs.Tasks.{idle_has_no_task, kept_task, other_task}
 use Rattle.snoop_laws.proofs.Parts.{Part, part_without, whole}
 use Rattle.snoop_laws.specs.Laws.{SentSnoopsHaveTasks}
@@ -199,14 +203,15 @@ moved setup h first cause sends mine p row host asked fits =
     record { t = fits.t; stands = task_stays setup h first cause sends mine p fits.t row host asked fits.stands; op = fits.op; span = fits.span; part = fits.part; some = fits.some }
 
 -- after the device's own events of a run each snoop is one of its task
-pub snoops_fit : (setup : Configuration) (mine : List Event) → DeviceRun setup mine → (h first : ℕ) (q : SentSnoop) → sent_snoop_at h first mine ≡ Some q → SnoopFits (directory setup mine).task first q
-snoops_fit setup [] run h first q asked = absurd (none-some q asked)
-snoops_fit setup (e ∷ past) run h first q asked =
-    let kept : DirectoryKept setup (directory setup past) (λ g a. sent_snoop_at g a past) = directory_is_kept setup past run.0 in
-    fits_after setup h first e.cause e.sends past (sent_snoop_at h first past) q run.1
-    (λ p was. moved setup h first e.cause e.sends past p run.1 (ltb-true h setup.hosts (kept.snoops h first p was).host) was (snoops_fit setup past run.0 h first p was)) asked
+pub snoops_fit : (setup : Configuration) (opening : List (Line × Bytes64)) (mine : List Event) → IsOwnRun setup opening device mine → (h first : ℕ) (q : SentSnoop) → sent_snoop_at h first mine ≡ Some q → SnoopFits (directory setup mine).task first q
+snoops_fit setup opening [] run h first q asked = absurd (none-some q asked)
+snoops_fit setup opening (e ∷ past) run h first q asked =
+    let own = device_event setup opening e past run in
+    let kept : DirectoryKept setup (directory setup past) (λ g a. sent_snoop_at g a past) = directory_is_kept setup opening past own.0 in
+    fits_after setup h first e.cause e.sends past (sent_snoop_at h first past) q own.1
+    (λ p was. moved setup h first e.cause e.sends past p own.1 (ltb-true h setup.hosts (kept.snoops h first p was).host) was (snoops_fit setup opening past own.0 h first p was)) asked
 
 pub sent_snoops_have_tasks : SentSnoopsHaveTasks
 sent_snoops_have_tasks setup opening t run h first q asked =
-    let fits = snoops_fit setup (events_of device t) (device_run setup opening t run) h first q asked in
+    let fits = snoops_fit setup opening (events_of device t) (events_of_run setup opening device t run) h first q asked in
     record { task = fits.t; stands = fits.stands; op = fits.op; span = fits.span }

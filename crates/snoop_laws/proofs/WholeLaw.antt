@@ -28,7 +28,7 @@ use Rattle.coherence_lemmas.proofs.Options.{some_is}
 use Rattle.entry_laws.proofs.Blocks.{below_all, some_lines}
 use Rattle.entry_laws.proofs.DirectorySteps.{DirectoryKept}
 use Rattle.entry_laws.proofs.Kept.{directory_is_kept}
-use Rattle.entry_laws.proofs.OwnRuns.{device_run}
+use Rattle.coherence_model.proofs.OwnRuns.{events_of_run}
 use Rattle.snoop_laws.proofs.AnswerSteps.{found_snoop, held_is_left}
 use Rattle.snoop_laws.proofs.Below.{any_below, both_same, one_counted, passing_below}
 use Rattle.snoop_laws.proofs.Counts.{Among, among_counts, among_either, among_rest, any_counts, counts_alike, counts_any, none_counted, times}
@@ -238,8 +238,8 @@ module _ (setup : Configuration) (opening : List (Line × Bytes64)) (t : List Ev
       by : (o : Option SentSnoop) → asked f ≡ o → 1 ≤ times a (left_of o) → f < setup.lines
       by None is some = absurd (omega arith)
       by (Some q) is some = (
-          let fits = snoops_fit setup (events_of device t) (device_run setup opening t run) h f q is in
-          let kept : DirectoryKept setup (directory setup (events_of device t)) (λ g b. sent_snoop_at g b (events_of device t)) = directory_is_kept setup (events_of device t) (device_run setup opening t run) in
+          let fits = snoops_fit setup opening (events_of device t) (events_of_run setup opening device t run) h f q is in
+          let kept : DirectoryKept setup (directory setup (events_of device t)) (λ g b. sent_snoop_at g b (events_of device t)) = directory_is_kept setup opening (events_of device t) (events_of_run setup opening device t run) in
           let within = (kept.tasks.placed f fits.t fits.stands).1 in
           let lines = some_lines fits.t.span in
           omega arith
@@ -268,7 +268,7 @@ module _ (setup : Configuration) (opening : List (Line × Bytes64)) (t : List Ev
     where
       by : (o : Option SentSnoop) → asked a ≡ o → implies (is_some o) (is_some ((directory setup (events_of device t)).task a)) ≡ true
       by None is = refl
-      by (Some q) is = ap is_some (snoops_fit setup (events_of device t) (device_run setup opening t run) h a q is).stands
+      by (Some q) is = ap is_some (snoops_fit setup opening (events_of device t) (events_of_run setup opening device t run) h a q is).stands
 
 -- ---- each answer has its snoop
 

@@ -1,4 +1,4 @@
-// Laws of every run on where each snooped line is.
+//! Laws of every run on where each snooped line is.
 #![tactic(auto)]
 
 ghost use Rattle.snoop_laws.specs.Laws.{AnswersMayBeTaken, HeldSnoopsWereSent, SentSnoopsHaveTasks, SnoopsArePlaced, SnoopsMayBeTaken};

@@ -21,7 +21,9 @@ use Rattle.coherence_model.specs.Flight.{takes_on}
 use Rattle.coherence_model.specs.Traces.{device}
 use Rattle.coherence_model.specs.Words.{with_last}
 use Rattle.step_laws.proofs.Counts.{Each, counted, each_append, find-is_some, count_by-cons, count_by-append, count_by-one}
-use Rattle.step_laws.proofs.OwnRuns.{OwnRun, device-some, guard-some, when-some}
+use Rattle.coherence_model.specs.OwnRuns.{IsOwnRun}
+use Rattle.coherence_model.proofs.OwnRuns.{own_event}
+use Rattle.step_laws.proofs.OwnRuns.{device-some, guard-some, when-some}
 use Rattle.coherence_lemmas.proofs.Allowed.{profiled}
 use Rattle.coherence_lemmas.proofs.Flight.{taken_from}
 use Rattle.step_laws.proofs.Profile.{taken_message_fits}
@@ -77,18 +79,22 @@ writes-fit-after setup g h (Cause.Act act) old fits e = each-without_used _ (wri
 
 -- each buffered Req or RwD message
 pub requests_fit :
-    (setup : Configuration) (opening : List (Line × Bytes64)) (g h : ℕ) (mine : List Event) → OwnRun setup opening g mine
+    (setup : Configuration) (opening : List (Line × Bytes64)) (g h : ℕ) (mine : List Event) → IsOwnRun setup opening g mine
     → Each (IsBuffered setup Channel.Req) (buffered_requests h mine)
 requests_fit setup opening g h [] run = tt
-requests_fit setup opening g h (e ∷ mine) run = requests-fit-after setup e.agent h e.cause (buffered_requests h mine) (profiled setup e run.0.profile).cause
-    (requests_fit setup opening g h mine run.1)
+requests_fit setup opening g h (e ∷ mine) run =
+    let own = own_event setup opening g e mine run in
+    requests-fit-after setup e.agent h e.cause (buffered_requests h mine) (profiled setup e own.profile).cause
+    (requests_fit setup opening g h mine own.before)
 
 pub writes_fit :
-    (setup : Configuration) (opening : List (Line × Bytes64)) (g h : ℕ) (mine : List Event) → OwnRun setup opening g mine
+    (setup : Configuration) (opening : List (Line × Bytes64)) (g h : ℕ) (mine : List Event) → IsOwnRun setup opening g mine
     → Each (IsBuffered setup Channel.Rwd) (buffered_writes h mine)
 writes_fit setup opening g h [] run = tt
-writes_fit setup opening g h (e ∷ mine) run = writes-fit-after setup e.agent h e.cause (buffered_writes h mine) (profiled setup e run.0.profile).cause
-    (writes_fit setup opening g h mine run.1)
+writes_fit setup opening g h (e ∷ mine) run =
+    let own = own_event setup opening g e mine run in
+    writes-fit-after setup e.agent h e.cause (buffered_writes h mine) (profiled setup e own.profile).cause
+    (writes_fit setup opening g h mine own.before)
 
 -- how many messages have a tag
 abbrev pub tag_count : ℕ → List Message → ℕ
@@ -195,17 +201,19 @@ writes-once-after setup opening h (Cause.Act act) mine tag some few = let less =
 
 -- no two buffered messages of a host and channel share a tag
 pub requests_once :
-    (setup : Configuration) (opening : List (Line × Bytes64)) (h : ℕ) (mine : List Event) → OwnRun setup opening device mine → (tag : ℕ)
+    (setup : Configuration) (opening : List (Line × Bytes64)) (h : ℕ) (mine : List Event) → IsOwnRun setup opening device mine → (tag : ℕ)
     → tag_count tag (buffered_requests h mine) ≤ 1
 requests_once setup opening h [] run tag = omega arith
 requests_once setup opening h (e ∷ mine) run tag =
-    requests-once-after setup opening h e.cause mine tag (device-some setup opening e mine (eq-eqb e.agent device run.0.agent) run.0.row)
-    (requests_once setup opening h mine run.1 tag)
+    let own = own_event setup opening device e mine run in
+    requests-once-after setup opening h e.cause mine tag (device-some setup opening e mine (eq-eqb e.agent device own.agent) own.row)
+    (requests_once setup opening h mine own.before tag)
 
 pub writes_once :
-    (setup : Configuration) (opening : List (Line × Bytes64)) (h : ℕ) (mine : List Event) → OwnRun setup opening device mine → (tag : ℕ)
+    (setup : Configuration) (opening : List (Line × Bytes64)) (h : ℕ) (mine : List Event) → IsOwnRun setup opening device mine → (tag : ℕ)
     → tag_count tag (buffered_writes h mine) ≤ 1
 writes_once setup opening h [] run tag = omega arith
 writes_once setup opening h (e ∷ mine) run tag =
-    writes-once-after setup opening h e.cause mine tag (device-some setup opening e mine (eq-eqb e.agent device run.0.agent) run.0.row)
-    (writes_once setup opening h mine run.1 tag)
+    let own = own_event setup opening device e mine run in
+    writes-once-after setup opening h e.cause mine tag (device-some setup opening e mine (eq-eqb e.agent device own.agent) own.row)
+    (writes_once setup opening h mine own.before tag)

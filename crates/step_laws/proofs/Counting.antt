@@ -30,7 +30,7 @@ use Rattle.step_laws.proofs.DeviceParts.{device_acts-sum, device_returns-none, r
 use Rattle.step_laws.proofs.DeviceSound.{device_act_profiled, is_named}
 use Rattle.step_laws.proofs.HostParts.{all_host_acts, all_host_acts-none}
 use Rattle.step_laws.proofs.HostSound.{host_act_profiled}
-use Rattle.step_laws.proofs.OwnRuns.{own_run}
+use Rattle.coherence_model.proofs.OwnRuns.{events_of_run}
 use Rattle.step_laws.proofs.Steps.{act_event}
 use Rattle.step_laws.proofs.Takes.{all_takes, take_event, takes-counted, takes-none, times}
 use Rattle.step_laws.proofs.TakeSound.{take_profiled}
@@ -126,7 +126,7 @@ pub host-act-allowed :
     → is_allowed setup opening t (act_event g act sends commit) ≡ (is_host setup g && row_holds setup opening (act_event g act sends commit) (events_of g t))
 host-act-allowed setup limits opening t run g act sends commit names =
     act-allowed setup opening t g act sends commit (is_host setup g) names
-    (λ host row. host_act_profiled setup limits opening g (events_of g t) (own_run setup opening g t run) host act sends commit row)
+    (λ host row. host_act_profiled setup limits opening g (events_of g t) (events_of_run setup opening g t run) host act sends commit row)
 
 -- an act of the device
 pub device-act-allowed :
@@ -141,4 +141,4 @@ device-act-allowed setup limits opening t run g act sends commit names =
     let at : g ≡ device = eqb-true g device a.1 in
     let there = subst (λ x. row_holds setup opening (act_event x act sends commit) (events_of x t) ≡ true) at row in
     subst (λ x. p0_profile setup (act_event x act sends commit) ≡ true) (sym at)
-    (device_act_profiled setup limits opening (events_of device t) (own_run setup opening device t run) act sends commit a.0 there))
+    (device_act_profiled setup limits opening (events_of device t) (events_of_run setup opening device t run) act sends commit a.0 there))

@@ -27,7 +27,7 @@ use Rattle.step_laws.proofs.Counts.{Each, each_holds, each_weaker, counted, coun
 use Rattle.step_laws.proofs.DeviceParts.{all_requests, all_serves, device-act-some, on_tag}
 use Rattle.step_laws.proofs.DeviceRows.{clean-holds, clean_or_evict, clean_or_start, evict-holds, request-found, serve-holds, start-holds, start_or_evict}
 use Rattle.step_laws.proofs.LineActs.{sum-under}
-use Rattle.step_laws.proofs.OwnRuns.{OwnRun}
+use Rattle.coherence_model.specs.OwnRuns.{IsOwnRun}
 use Rattle.step_laws.proofs.Steps.{act_event, counted-one, no-device-act, three-first, three-second, three-third, times-act}
 use Rattle.step_laws.proofs.Takes.{sorted-step, times}
 
@@ -90,7 +90,7 @@ other-host h k at row n other = rw (ne_eqb h k (λ e. other (sym e)))
 
 -- what is known of the device of a run
 abbrev pub AtDevice : Configuration → List (Line × Bytes64) → List Event → Type 0
-AtDevice setup opening t = OwnRun setup opening device (events_of device t)
+AtDevice setup opening t = IsOwnRun setup opening device (events_of device t)
 
 once-found : (n : ℕ) (b : Bool) (count : ℕ) → n ≡ count → count ≤ 1 → b ≡ nat_le 1 count → b ≡ true → n ≡ 1
 once-found n b count same few is some = let one = leb-true 1 count (sym is ∙ some) in omega arith

@@ -27,7 +27,7 @@ use Rattle.step_laws.proofs.Events.{is_step}
 use Rattle.step_laws.proofs.HostNext.{is_of_host}
 use Rattle.step_laws.proofs.HostCounts.{NoSnoopAct}
 use Rattle.step_laws.proofs.HostParts.{all_host_acts-none}
-use Rattle.step_laws.proofs.OwnRuns.{own_run}
+use Rattle.coherence_model.proofs.OwnRuns.{events_of_run}
 use Rattle.step_laws.proofs.Steps.{act_event}
 use Rattle.step_laws.proofs.TaskCounts.{device_return-counted, finish-counted, snoop-counted}
 use Rattle.step_laws.proofs.Takes.{takes-none, times}
@@ -111,7 +111,7 @@ pub serve-next :
 serve-next setup limits opening t run g h tag sends commit =
     let e : Event = act_event g (Act.Serve h tag) sends commit in
     device-act-next setup limits opening t run g (Act.Serve h tag) sends commit refl (named-with_tag g h setup.hosts _)
-    (device_acts-sum setup opening t e _ 0 0 0 (serve-counted setup opening t (own_run setup opening device t run) g h tag sends commit)
+    (device_acts-sum setup opening t e _ 0 0 0 (serve-counted setup opening t (events_of_run setup opening device t run) g h tag sends commit)
     (request_acts-none setup opening t e (λ k s. (refl, refl, refl))) (tasks-none setup opening t e (λ k a. refl) (λ a. refl))
     (device_returns-none setup opening t e (λ k c. refl))
     ∙ (first-part _ ∙ regroup (nat_lt h setup.hosts) (g == device) _))
@@ -124,7 +124,7 @@ clean-next setup limits opening t run g h tag sends commit =
     let e : Event = act_event g (Act.Clean h tag) sends commit in
     device-act-next setup limits opening t run g (Act.Clean h tag) sends commit refl (named-with_tag g h setup.hosts _)
     (device_acts-sum setup opening t e 0 _ 0 0 (serves-none setup opening t e (λ k s. refl))
-    (clean-counted setup opening t (own_run setup opening device t run) g h tag sends commit) (tasks-none setup opening t e (λ k a. refl) (λ a. refl))
+    (clean-counted setup opening t (events_of_run setup opening device t run) g h tag sends commit) (tasks-none setup opening t e (λ k a. refl) (λ a. refl))
     (device_returns-none setup opening t e (λ k c. refl))
     ∙ (second-part _ ∙ regroup (nat_lt h setup.hosts) (g == device) _))
 
@@ -136,7 +136,7 @@ start-next setup limits opening t run g h tag sends commit =
     let e : Event = act_event g (Act.Start h tag) sends commit in
     device-act-next setup limits opening t run g (Act.Start h tag) sends commit refl (named-with_tag g h setup.hosts _)
     (device_acts-sum setup opening t e 0 _ 0 0 (serves-none setup opening t e (λ k s. refl))
-    (start-counted setup opening t (own_run setup opening device t run) g h tag sends commit) (tasks-none setup opening t e (λ k a. refl) (λ a. refl))
+    (start-counted setup opening t (events_of_run setup opening device t run) g h tag sends commit) (tasks-none setup opening t e (λ k a. refl) (λ a. refl))
     (device_returns-none setup opening t e (λ k c. refl))
     ∙ (second-part _ ∙ regroup (nat_lt h setup.hosts) (g == device) _))
 
@@ -148,7 +148,7 @@ evict-next setup limits opening t run g h tag sends commit =
     let e : Event = act_event g (Act.Evict h tag) sends commit in
     device-act-next setup limits opening t run g (Act.Evict h tag) sends commit refl (named-with_tag g h setup.hosts _)
     (device_acts-sum setup opening t e 0 _ 0 0 (serves-none setup opening t e (λ k s. refl))
-    (evict-counted setup opening t (own_run setup opening device t run) g h tag sends commit) (tasks-none setup opening t e (λ k a. refl) (λ a. refl))
+    (evict-counted setup opening t (events_of_run setup opening device t run) g h tag sends commit) (tasks-none setup opening t e (λ k a. refl) (λ a. refl))
     (device_returns-none setup opening t e (λ k c. refl))
     ∙ (second-part _ ∙ regroup (nat_lt h setup.hosts) (g == device) _))
 

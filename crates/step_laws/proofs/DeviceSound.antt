@@ -37,7 +37,7 @@ use Rattle.step_laws.proofs.Buffered.{IsBuffered, requests_fit, writes_fit}
 use Rattle.step_laws.proofs.Counts.{each_find}
 use Rattle.step_laws.proofs.DeviceRows.{request-found}
 use Rattle.step_laws.proofs.Emissions.{EmissionFits, MessageGood, device-sends, event-profiled, host-low, nothing-fits, one-fits, two-fits}
-use Rattle.step_laws.proofs.OwnRuns.{OwnRun}
+use Rattle.coherence_model.specs.OwnRuns.{IsOwnRun}
 use Rattle.step_laws.proofs.StandingTasks.{directory_fits}
 use Rattle.step_laws.proofs.Steps.{act_event}
 
@@ -101,7 +101,7 @@ request-tag setup tag (Message.BiSnp op bitag line span) r buffered has is = abs
 request-tag setup tag (Message.Credit c) r buffered has is = absurd (none-some r is)
 
 request-good :
-    (setup : Configuration) (opening : List (Line × Bytes64)) (mine : List Event) → OwnRun setup opening device mine → (h : ℕ) (tag : Tag) (r : Request)
+    (setup : Configuration) (opening : List (Line × Bytes64)) (mine : List Event) → IsOwnRun setup opening device mine → (h : ℕ) (tag : Tag) (r : Request)
     → buffered_request h tag mine ≡ Some r → (tag_exists setup tag ≡ true) × (tag_exists setup r.tag ≡ true)
 request-good setup opening mine run h tag r is =
     let found = request-found (message_with tag.0 (buffered_requests h mine)) r is in
@@ -173,7 +173,7 @@ is_named setup (Act.Finish line) = nat_lt line.0 setup.lines
 is_named setup (Act.DeviceReturn h c) = nat_lt h setup.hosts
 
 act-good :
-    (setup : Configuration) → IsWithinLimits setup → (opening : List (Line × Bytes64)) (mine : List Event) → OwnRun setup opening device mine
+    (setup : Configuration) → IsWithinLimits setup → (opening : List (Line × Bytes64)) (mine : List Event) → IsOwnRun setup opening device mine
     → (act : Act) (w : Emission) → is_named setup act ≡ true → device_acts setup opening act mine ≡ Some w → ActGood setup act w
 act-good setup limits opening mine run (Act.Conflict line) w named is = absurd (none-some w is)
 act-good setup limits opening mine run (Act.WriteBack line) w named is = absurd (none-some w is)
@@ -252,7 +252,7 @@ act-good setup limits opening mine run (Act.DeviceReturn h c) w host is =
 
 -- an act whose row holds at the device is in the profile
 pub device_act_profiled :
-    (setup : Configuration) → IsWithinLimits setup → (opening : List (Line × Bytes64)) (mine : List Event) → OwnRun setup opening device mine
+    (setup : Configuration) → IsWithinLimits setup → (opening : List (Line × Bytes64)) (mine : List Event) → IsOwnRun setup opening device mine
     → (act : Act) (sends : Sends) (commit : Option Commit) → is_named setup act ≡ true → row_holds setup opening (act_event device act sends commit) mine ≡ true
     → p0_profile setup (act_event device act sends commit) ≡ true
 device_act_profiled setup limits opening mine run act sends commit named row =

@@ -19,12 +19,12 @@ use Rattle.coherence_model.specs.Rows.{emission, is_emitted, row_holds}
 use Rattle.coherence_model.specs.Runs.{IsRun, is_allowed}
 use Rattle.coherence_model.specs.Traces.{device, events_of}
 use Rattle.coherence_lemmas.proofs.Directions.{take_parts}
-use Rattle.coherence_lemmas.proofs.Events.{same-sends_eq, same_commits}
+use Rattle.cxl_message.proofs.SameEvents.{same-sends_eq, same_commits}
 use Rattle.step_laws.specs.Laws.{EmittedEventsAreAllowed}
 use Rattle.step_laws.proofs.Counting.{device-act-allowed, host-act-allowed, take-allowed}
 use Rattle.step_laws.proofs.DeviceNext.{named-snoop, named-with_tag, swap-step}
 use Rattle.step_laws.proofs.OperationSound.{operation_profiled}
-use Rattle.step_laws.proofs.OwnRuns.{own_run}
+use Rattle.coherence_model.proofs.OwnRuns.{events_of_run}
 
 -- the event that an emission makes is emitted by its row
 own-row :
@@ -74,7 +74,7 @@ emitted_events_are_allowed setup opening limits t run g (Cause.Op s i op) w pass
     let row = own-row setup opening g (Cause.Op s i op) w mine is in
     let parts = and_parts (cause_formed (Cause.Op s i op)) (cause_fits setup g (Cause.Op s i op)) passes in
     allowed_by_halves setup opening t e (own_half_by_parts setup opening e mine
-    (operation_profiled setup limits opening g mine (own_run setup opening g t run) s i op w.sends w.commit parts.0 parts.1 row) order row) take
+    (operation_profiled setup limits opening g mine (events_of_run setup opening g t run) s i op w.sends w.commit parts.0 parts.1 row) order row) take
 emitted_events_are_allowed setup opening limits t run g (Cause.Take h m) w passes order take is =
     let row = own-row setup opening g (Cause.Take h m) w (events_of g t) is in
     let parts = and_parts (cause_formed (Cause.Take h m)) (cause_fits setup g (Cause.Take h m)) passes in

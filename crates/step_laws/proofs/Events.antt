@@ -16,9 +16,9 @@ use Rattle.coherence_model.specs.Emission.{Emission}
 use Rattle.coherence_model.specs.Next.{event_with, step_of}
 use Rattle.coherence_model.specs.Rows.{emission, is_emitted, row_holds}
 use Rattle.coherence_model.specs.Traces.{events_of}
-use Rattle.coherence_lemmas.proofs.Codes.{channel_eq-same, same-channel_eq}
-use Rattle.coherence_lemmas.proofs.Events.{op_eq-same, same-op_eq, same_commits, same-sends_eq}
-use Rattle.coherence_lemmas.proofs.Messages.{message_eq-same, same-message_eq}
+use Rattle.cxl_message.proofs.SameNames.{channel_eq-same, same-channel_eq}
+use Rattle.cxl_message.proofs.SameEvents.{op_eq-same, same-op_eq, same_commits, same-sends_eq}
+use Rattle.cxl_message.proofs.SameMessages.{message_eq-same, same-message_eq}
 use Rattle.step_laws.specs.Events.{act_eq, cause_eq, event_eq}
 use Rattle.step_laws.proofs.Counts.{count_by-one, counted}
 

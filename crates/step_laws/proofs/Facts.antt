@@ -1,4 +1,4 @@
--- Facts of every run by which each act stands once among the next steps.
+-- Facts of a host's own events by which each act stands once among the next steps.
 use Rattle.std.proofs.Common.{◌≡◌, ℕ, ◌+◌, ◌≤◌, Bool, true, false, List, Some, refl, sym, ◌∙◌, subst, arith}
 use Rattle.std.specs.Prelude.{◌==◌, is_some}
 use Rattle.std.proofs.lemmas.Bool.{and_from, le-leb, leb-true}
@@ -12,7 +12,6 @@ use Rattle.coherence_model.specs.DeviceActs.{buffered_request, device_acts}
 use Rattle.coherence_model.specs.DirectoryChanges.{directory}
 use Rattle.coherence_model.specs.HostActs.{host_acts, is_answered_alone}
 use Rattle.coherence_model.specs.Snoops.{Snoop, buffered_snoops, is_whole_block, snoop_at}
-use Rattle.coherence_model.specs.Traces.{events_of}
 use Rattle.coherence_model.specs.Transactions.{is_open}
 use Rattle.coherence_model.specs.Words.{one_if}
 use Rattle.step_laws.specs.Facts.{BlocksComeFirst, HeldSnoopsAreDisjoint, HeldSnoopsFit, LinesHaveOneAct, RequestsHaveOneAct, held_snoop_fits}
@@ -22,17 +21,16 @@ use Rattle.step_laws.proofs.HeldSnoops.{SnoopFits, held_snoops_fit}
 use Rattle.step_laws.proofs.HostCounts.{alone-no-block}
 use Rattle.step_laws.proofs.HostRows.{answer-holds, answer_block-holds, block-line, both_ways, conflict-open, ready_no_conflict, ready_no_write_back, write_back-holds}
 use Rattle.step_laws.proofs.LoneSnoops.{held_once, snoop_at-alone}
-use Rattle.step_laws.proofs.OwnRuns.{host_is_no_device, own_run}
+use Rattle.step_laws.proofs.OwnRuns.{host_is_no_device}
 
 pub held_snoops_are_disjoint : HeldSnoopsAreDisjoint
-held_snoops_are_disjoint setup opening limits t run h host a = held_once setup opening h (events_of h t) (host_is_no_device setup limits h host)
-    (own_run setup opening h t run) a
+held_snoops_are_disjoint setup opening limits h host mine run a = held_once setup opening h mine (host_is_no_device setup limits h host) run a
 
 pub held_snoops_all_fit : HeldSnoopsFit
-held_snoops_all_fit setup opening limits t run h host =
-    all_from_each (held_snoop_fits setup) (buffered_snoops (events_of h t))
+held_snoops_all_fit setup opening limits h host mine run =
+    all_from_each (held_snoop_fits setup) (buffered_snoops mine)
     (each_weaker _ _ (λ s fits. and_from _ _ (and_from _ _ fits.kind (le-leb _ _ fits.within)) (all_from_each (covers s.first s.span) s.unanswered fits.covered))
-    (buffered_snoops (events_of h t)) (held_snoops_fit setup opening h (events_of h t) (own_run setup opening h t run)))
+    (buffered_snoops mine) (held_snoops_fit setup opening h mine run))
 
 -- of three tests, no two of which hold together, one holds at most
 one-of_three : (x y z : Bool) → (x ≡ true → y ≡ true → ⊥) → (x ≡ true → z ≡ true → ⊥) → (y ≡ true → z ≡ true → ⊥) → one_if x + one_if y + one_if z ≤ 1
@@ -74,9 +72,7 @@ one-holds true h = refl
 one-holds false h = absurd (omega arith)
 
 pub blocks_come_first : BlocksComeFirst
-blocks_come_first setup opening limits t run h host s found block a inside =
-    let mine : List Event = events_of h t in
-    let own = own_run setup opening h t run in
+blocks_come_first setup opening limits h host mine own s found block a inside =
     let other = host_is_no_device setup limits h host in
     let fits = each_find (SnoopFits setup) (is_whole_block s.first) (buffered_snoops mine) (held_snoops_fit setup opening h mine own) s found in
     let alone = each_find (λ (r : Snoop). (b : ℕ) → is_in b r.unanswered ≡ true → snoop_at b mine ≡ Some r) (is_whole_block s.first) (buffered_snoops mine)

@@ -10,7 +10,7 @@ use Rattle.cxl_message.specs.Events.{outs}
 use Rattle.cxl_message.specs.Messages.{channel_of, message_eq}
 use Rattle.coherence_model.specs.Flight.{in_flight, is_on, sends_on, takes_on, without_first, without_taken}
 use Rattle.step_laws.proofs.Counts.{Each, each_append, each_holds}
-use Rattle.coherence_lemmas.proofs.Codes.{channel_eq-same}
+use Rattle.cxl_message.proofs.SameNames.{channel_eq-same}
 
 -- what is left of a list once one was taken away
 pub without-step : (P : Message → Type 0) (b : Bool) (n : Message) (ns left : List Message) → P n → Each P ns → Each P left → Each P (cond b ns (n ∷ left))

@@ -18,7 +18,8 @@ use Rattle.cxl_message.specs.Spans.{covers, lines_of}
 use Rattle.coherence_model.specs.Fitting.{cause_fits}
 use Rattle.coherence_model.specs.Snoops.{Snoop, buffered_snoops, is_whole_block, snoop_left, snoops_after, snoops_after_act, snoops_after_answer}
 use Rattle.step_laws.proofs.Counts.{Each, each_append, each_filter}
-use Rattle.step_laws.proofs.OwnRuns.{OwnRun}
+use Rattle.coherence_model.specs.OwnRuns.{IsOwnRun}
+use Rattle.coherence_model.proofs.OwnRuns.{own_event}
 use Rattle.coherence_lemmas.proofs.Allowed.{profiled}
 use Rattle.step_laws.proofs.Profile.{taken_message_fits}
 
@@ -141,8 +142,9 @@ after-fit setup g (Cause.Act act) ss fits e = after_act-fit setup act ss e
 
 -- each snoop that an agent holds fits
 pub held_snoops_fit :
-    (setup : Configuration) (opening : List (Line × Bytes64)) (g : ℕ) (mine : List Event) → OwnRun setup opening g mine
+    (setup : Configuration) (opening : List (Line × Bytes64)) (g : ℕ) (mine : List Event) → IsOwnRun setup opening g mine
     → Each (SnoopFits setup) (buffered_snoops mine)
 held_snoops_fit setup opening g [] run = tt
 held_snoops_fit setup opening g (e ∷ mine) run =
-    after-fit setup e.agent e.cause (buffered_snoops mine) (profiled setup e run.0.profile).cause (held_snoops_fit setup opening g mine run.1)
+    let own = own_event setup opening g e mine run in
+    after-fit setup e.agent e.cause (buffered_snoops mine) (profiled setup e own.profile).cause (held_snoops_fit setup opening g mine own.before)

@@ -19,7 +19,8 @@ use Rattle.coherence_model.specs.Snoops.{is_quiet}
 use Rattle.coherence_model.specs.Tags.{free_tags, is_tag_used}
 use Rattle.coherence_lemmas.proofs.Allowed.{profiled}
 use Rattle.step_laws.proofs.Counts.{Each, each_append, each_filter, each_find, each_from_all}
-use Rattle.step_laws.proofs.OwnRuns.{OwnRun}
+use Rattle.coherence_model.specs.OwnRuns.{IsOwnRun}
+use Rattle.coherence_model.proofs.OwnRuns.{own_event}
 
 -- the line of a message that fits exists
 abbrev LineExists : Configuration → Option ℕ → Type 0
@@ -78,18 +79,19 @@ dropped-exist setup (Some v) old all = each_filter _ (λ y. not (v == y)) old.wa
 
 -- each line with a way exists
 pub ways_exist :
-    (setup : Configuration) (opening : List (Line × Bytes64)) (g : ℕ) (mine : List Event) → OwnRun setup opening g mine → AllExist setup (ways setup mine)
+    (setup : Configuration) (opening : List (Line × Bytes64)) (g : ℕ) (mine : List Event) → IsOwnRun setup opening g mine → AllExist setup (ways setup mine)
 ways_exist setup opening g [] run = tt
 ways_exist setup opening g (e ∷ mine) run =
+    let own = own_event setup opening g e mine run in
     let old : Cache = cache setup mine in
     let kept : Cache = without_dropped (dropped_line setup e.cause e.sends mine old.ways) old in
     after-exist setup e.agent e.cause e.sends (keeps_way (e ∷ mine) (copies_after e mine kept.copies)) kept.ways
-    (each_from_all (out_fits setup e.agent) (outs e.sends) (profiled setup e run.0.profile).sends)
-    (dropped-exist setup (dropped_line setup e.cause e.sends mine old.ways) old (ways_exist setup opening g mine run.1))
+    (each_from_all (out_fits setup e.agent) (outs e.sends) (profiled setup e own.profile).sends)
+    (dropped-exist setup (dropped_line setup e.cause e.sends mine old.ways) old (ways_exist setup opening g mine own.before))
 
 -- so does the victim
 pub victim_exists :
-    (setup : Configuration) (opening : List (Line × Bytes64)) (g : ℕ) (mine : List Event) → OwnRun setup opening g mine → (v : ℕ)
+    (setup : Configuration) (opening : List (Line × Bytes64)) (g : ℕ) (mine : List Event) → IsOwnRun setup opening g mine → (v : ℕ)
     → victim_way setup mine ≡ Some v → v < setup.lines
 victim_exists setup opening g mine run v is = (each_find (λ a. a < setup.lines) (λ a. is_quiet a mine) (ways setup mine)
     (ways_exist setup opening g mine run) v is).0

@@ -29,7 +29,8 @@ use Rattle.step_laws.proofs.HeldSnoops.{SnoopFits, held_snoops_fit}
 use Rattle.step_laws.proofs.HostRows.{WriteBackHolds, answer-holds, block-line, both_ways, conflict-open, ready_no_conflict, ready_no_write_back, whole_long, write_back-holds}
 use Rattle.step_laws.proofs.LineActs.{empty-block, line-act-once}
 use Rattle.step_laws.proofs.LoneSnoops.{has-less, held_count, held_once, line_count, snoop_at-alone, whole_block-alone}
-use Rattle.step_laws.proofs.OwnRuns.{OwnRun, host-some}
+use Rattle.coherence_model.specs.OwnRuns.{IsOwnRun}
+use Rattle.step_laws.proofs.OwnRuns.{host-some}
 use Rattle.std.proofs.lemmas.Option.{same_Some}
 use Rattle.step_laws.proofs.Steps.{act_event, counted-one, three-first, three-none, three-second, three-third, no-host-act, or-none, times-act-none, times-own}
 use Rattle.step_laws.proofs.Takes.{times}
@@ -84,7 +85,7 @@ returns-none setup opening t k e other =
 -- what is known of a host of a run
 pub record AtHost (setup : Configuration) (opening : List (Line × Bytes64)) (t : List Event) (g : ℕ) : Type 0 where
   pub host : is_device g ≡ false
-  pub run : OwnRun setup opening g (events_of g t)
+  pub run : IsOwnRun setup opening g (events_of g t)
 
 snooped-held : (a : ℕ) (mine : List Event) → is_snooped a mine ≡ true → 1 ≤ held_count a (buffered_snoops mine)
 snooped-held a mine is =

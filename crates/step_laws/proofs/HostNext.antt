@@ -23,7 +23,8 @@ use Rattle.step_laws.proofs.Counts.{counted}
 use Rattle.step_laws.proofs.DeviceParts.{IsNot, device_acts-sum, device_returns-none, request_acts-none, serves-none, tasks-none}
 use Rattle.step_laws.proofs.HostCounts.{AtHost, NoSnoopAct, answer-counted, conflict-counted, returns-none, snoop_acts-none, write_back-counted}
 use Rattle.step_laws.proofs.HostParts.{all_host_acts, all_host_acts-counted, answer_block-counted, host_acts-sum, host_return-counted}
-use Rattle.step_laws.proofs.OwnRuns.{host_is_no_device, own_run}
+use Rattle.coherence_model.proofs.OwnRuns.{events_of_run}
+use Rattle.step_laws.proofs.OwnRuns.{host_is_no_device}
 use Rattle.step_laws.proofs.Steps.{act_event}
 use Rattle.step_laws.proofs.Takes.{takes-none, times}
 
@@ -117,7 +118,7 @@ host-act-next setup limits opening t run g act sends commit of_host once =
     let own : times e (all_host_acts setup opening t) ≡ counted (nat_lt g setup.hosts && row) =
     all_host_acts-counted setup opening t e
     ∙ under-step (nat_lt g setup.hosts) row (times e (next_host_acts setup opening t g))
-    (λ host. once (record { host = host_is_no_device setup limits g host; run = own_run setup opening g t run })) in
+    (λ host. once (record { host = host_is_no_device setup limits g host; run = events_of_run setup opening g t run })) in
     parts-sum setup opening t e 0 (counted (nat_lt g setup.hosts && row)) 0 (takes-none setup opening t e (λ h m. refl)) own
     (device_acts-none setup opening t e (no_device_act g act sends commit of_host))
     ∙ (middle-step (counted (nat_lt g setup.hosts && row))

@@ -42,7 +42,8 @@ use Rattle.step_laws.proofs.HeldSnoops.{SnoopFits, held_snoops_fit}
 use Rattle.step_laws.proofs.HostParts.{block-found}
 use Rattle.step_laws.proofs.LoneSnoops.{each_at}
 use Rattle.step_laws.proofs.OpenTransactions.{transaction_fits}
-use Rattle.step_laws.proofs.OwnRuns.{OwnRun, host_is_no_device}
+use Rattle.coherence_model.specs.OwnRuns.{IsOwnRun}
+use Rattle.step_laws.proofs.OwnRuns.{host_is_no_device}
 use Rattle.step_laws.proofs.Steps.{act_event}
 
 -- a line of a snoop that is held: the snoop fits, and covers the line
@@ -62,14 +63,14 @@ held-line setup a s fits is =
     record { fits = fits; low = low; high = high; exists = lt-ltb a setup.lines (omega arith) }
 
 snooped-line :
-    (setup : Configuration) (opening : List (Line × Bytes64)) (g : ℕ) (mine : List Event) → OwnRun setup opening g mine → (a : ℕ) (s : Snoop)
+    (setup : Configuration) (opening : List (Line × Bytes64)) (g : ℕ) (mine : List Event) → IsOwnRun setup opening g mine → (a : ℕ) (s : Snoop)
     → snoop_at a mine ≡ Some s → HeldLine setup a s
 snooped-line setup opening g mine run a s is =
     let found = each_find (SnoopFits setup) (λ (r : Snoop). is_in a r.unanswered) (buffered_snoops mine) (held_snoops_fit setup opening g mine run) s is in
     held-line setup a s found.0 found.1
 
 snooped-exists :
-    (setup : Configuration) (opening : List (Line × Bytes64)) (g : ℕ) (mine : List Event) → OwnRun setup opening g mine → (a : ℕ) → is_snooped a mine ≡ true
+    (setup : Configuration) (opening : List (Line × Bytes64)) (g : ℕ) (mine : List Event) → IsOwnRun setup opening g mine → (a : ℕ) → is_snooped a mine ≡ true
     → nat_lt a setup.lines ≡ true
 snooped-exists setup opening g mine run a is = let found = some_is (snoop_at a mine) is in (snooped-line setup opening g mine run a found.x found.found).exists
 
@@ -120,7 +121,7 @@ whole-first-line b s whole = let parts = and_parts _ _ whole in eqb-true s.first
 
 -- what each act of a host emits is in the profile
 act-good :
-    (setup : Configuration) → IsWithinLimits setup → (opening : List (Line × Bytes64)) (g : ℕ) (mine : List Event) → OwnRun setup opening g mine
+    (setup : Configuration) → IsWithinLimits setup → (opening : List (Line × Bytes64)) (g : ℕ) (mine : List Event) → IsOwnRun setup opening g mine
     → is_host setup g ≡ true → (act : Act) (w : Emission) → host_acts setup g act mine ≡ Some w → ActGood setup g act w
 act-good setup limits opening g mine run host (Act.Conflict line) w is =
     let inv = h7_conflict-inv setup g line.0 mine (open_at line.0 mine) w is in
@@ -184,7 +185,7 @@ act-good setup limits opening g mine run host (Act.DeviceReturn h c) w is = absu
 
 -- an act whose row holds at a host is in the profile
 pub host_act_profiled :
-    (setup : Configuration) → IsWithinLimits setup → (opening : List (Line × Bytes64)) (g : ℕ) (mine : List Event) → OwnRun setup opening g mine
+    (setup : Configuration) → IsWithinLimits setup → (opening : List (Line × Bytes64)) (g : ℕ) (mine : List Event) → IsOwnRun setup opening g mine
     → is_host setup g ≡ true → (act : Act) (sends : Sends) (commit : Option Commit) → row_holds setup opening (act_event g act sends commit) mine ≡ true
     → p0_profile setup (act_event g act sends commit) ≡ true
 host_act_profiled setup limits opening g mine run host act sends commit row =

@@ -19,7 +19,7 @@ use Rattle.coherence_model.specs.Flight.{in_flight}
 use Rattle.coherence_model.specs.Next.{next_steps}
 use Rattle.coherence_model.specs.Runs.{IsRun, is_allowed}
 use Rattle.coherence_model.specs.Weight.{is_operation}
-use Rattle.coherence_lemmas.proofs.Events.{commits_same, sends_eq-same}
+use Rattle.cxl_message.proofs.SameEvents.{commits_same, sends_eq-same}
 use Rattle.step_laws.specs.Events.{cause_eq, event_eq}
 use Rattle.step_laws.specs.Laws.{AllowedStepsAreNext, EventsDecide, NextStepsAreAllowed, NextStepsAreCounted, expected_count, step_count}
 use Rattle.step_laws.proofs.Counting.{operation-next, take-next}

@@ -23,7 +23,8 @@ use Rattle.coherence_model.specs.Transactions.{Kind, Transaction, is_read, is_re
 use Rattle.coherence_lemmas.proofs.Allowed.{profiled}
 use Rattle.coherence_lemmas.proofs.Options.{and_then_some, if_some}
 use Rattle.step_laws.proofs.Counts.{Each, each_from_all}
-use Rattle.step_laws.proofs.OwnRuns.{OwnRun}
+use Rattle.coherence_model.specs.OwnRuns.{IsOwnRun}
+use Rattle.coherence_model.proofs.OwnRuns.{own_event}
 
 -- what is open, as a host may have it: a BIConflict may take the tag of all but a MemWr
 pub record TransactionFits (setup : Configuration) (o : Transaction) : Type 0 where
@@ -120,27 +121,28 @@ after-fits setup g a (Cause.Act act) sends old formed fits sent before = before
 
 -- what is open for a line fits
 pub open_at_fits :
-    (setup : Configuration) (opening : List (Line × Bytes64)) (g : ℕ) (mine : List Event) → OwnRun setup opening g mine → (a : ℕ)
+    (setup : Configuration) (opening : List (Line × Bytes64)) (g : ℕ) (mine : List Event) → IsOwnRun setup opening g mine → (a : ℕ)
     → OpenFits setup (open_at a mine)
 open_at_fits setup opening g [] run a = tt
 open_at_fits setup opening g (e ∷ mine) run a =
-    let profile = profiled setup e run.0.profile in
+    let own = own_event setup opening g e mine run in
+    let profile = profiled setup e own.profile in
     let formed = and_parts _ _ (and_parts _ _ (and_parts _ _ profile.formed).0).0 in
     after-fits setup e.agent a e.cause e.sends (open_at a mine) formed.1 profile.cause (each_from_all (out_fits setup e.agent) (outs e.sends) profile.sends)
-    (open_at_fits setup opening g mine run.1 a)
+    (open_at_fits setup opening g mine own.before a)
 
 some-fits : (setup : Configuration) (found : Option Transaction) (o : Transaction) → OpenFits setup found → found ≡ Some o → TransactionFits setup o
 some-fits setup None o fits is = absurd (none-some o is)
 some-fits setup (Some p) o fits is = subst (TransactionFits setup) (same_Some p o is) fits
 
 pub transaction_fits :
-    (setup : Configuration) (opening : List (Line × Bytes64)) (g : ℕ) (mine : List Event) → OwnRun setup opening g mine → (a : ℕ) (o : Transaction)
+    (setup : Configuration) (opening : List (Line × Bytes64)) (g : ℕ) (mine : List Event) → IsOwnRun setup opening g mine → (a : ℕ) (o : Transaction)
     → open_at a mine ≡ Some o → TransactionFits setup o
 transaction_fits setup opening g mine run a o is = some-fits setup (open_at a mine) o (open_at_fits setup opening g mine run a) is
 
 -- what is open with a tag fits
 pub tagged_fits :
-    (setup : Configuration) (opening : List (Line × Bytes64)) (g : ℕ) (mine : List Event) → OwnRun setup opening g mine → (tag : ℕ) (o : Transaction)
+    (setup : Configuration) (opening : List (Line × Bytes64)) (g : ℕ) (mine : List Event) → IsOwnRun setup opening g mine → (tag : ℕ) (o : Transaction)
     → open_with tag mine ≡ Some o → TransactionFits setup o
 tagged_fits setup opening g mine run tag o is =
     let found = and_then_some (if_tagged tag) (option_and_then (λ a. open_at a mine) (tagged_line tag mine)) o is in

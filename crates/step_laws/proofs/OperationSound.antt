@@ -31,7 +31,8 @@ use Rattle.coherence_lemmas.proofs.HostOperations.{Missed, RequestAlone, Request
 use Rattle.step_laws.proofs.Counts.{Each}
 use Rattle.step_laws.proofs.Emissions.{EmissionFits, MessageGood, event-profiled, host-agent, host-sends, one-fits, two-fits}
 use Rattle.step_laws.proofs.HeldWays.{free_tags_exist, victim_exists}
-use Rattle.step_laws.proofs.OwnRuns.{OwnRun, host_is_no_device}
+use Rattle.coherence_model.specs.OwnRuns.{IsOwnRun}
+use Rattle.step_laws.proofs.OwnRuns.{host_is_no_device}
 
 -- a request of an operation that fits
 request-good :
@@ -80,7 +81,7 @@ evicting-fits setup limits g op v mine w host exists less both =
     (host-sends setup limits g (request_message op both.tag) host good.0 good.1))
 
 missed-fits :
-    (setup : Configuration) → IsWithinLimits setup → (opening : List (Line × Bytes64)) (g : ℕ) (op : Op) (mine : List Event) → OwnRun setup opening g mine
+    (setup : Configuration) → IsWithinLimits setup → (opening : List (Line × Bytes64)) (g : ℕ) (op : Op) (mine : List Event) → IsOwnRun setup opening g mine
     → (w : Emission) → is_host setup g ≡ true → nat_lt (line_of op) setup.lines ≡ true → Missed setup g op mine w → EmissionFits setup g w
 missed-fits setup limits opening g op mine run w host exists missed = elim missed.how [
   | inl without ↦ alone-fits setup limits g op mine w host exists without.alone
@@ -91,7 +92,7 @@ missed-fits setup limits opening g op mine run w host exists missed = elim misse
 
 -- what an operation emits at a host
 operation-fits :
-    (setup : Configuration) → IsWithinLimits setup → (opening : List (Line × Bytes64)) (g s i : ℕ) (op : Op) (mine : List Event) → OwnRun setup opening g mine
+    (setup : Configuration) → IsWithinLimits setup → (opening : List (Line × Bytes64)) (g s i : ℕ) (op : Op) (mine : List Event) → IsOwnRun setup opening g mine
     → (w : Emission) → is_host setup g ≡ true → nat_lt (line_of op) setup.lines ≡ true → cause_formed (Cause.Op s i op) ≡ true
     → host_operates setup g s i op mine ≡ Some w → EmissionFits setup g w
 operation-fits setup limits opening g s i op mine run w host exists formed is = elim (host_operates-inv setup g s i op mine w is) [
@@ -101,7 +102,7 @@ operation-fits setup limits opening g s i op mine run w host exists formed is = 
 
 -- an operation whose row holds at a host, and whose cause passes, is in the profile
 pub operation_profiled :
-    (setup : Configuration) → IsWithinLimits setup → (opening : List (Line × Bytes64)) (g : ℕ) (mine : List Event) → OwnRun setup opening g mine
+    (setup : Configuration) → IsWithinLimits setup → (opening : List (Line × Bytes64)) (g : ℕ) (mine : List Event) → IsOwnRun setup opening g mine
     → (s i : ℕ) (op : Op) (sends : Sends) (commit : Option Commit) → cause_formed (Cause.Op s i op) ≡ true → cause_fits setup g (Cause.Op s i op) ≡ true
     → row_holds setup opening (record { agent = g; cause = Cause.Op s i op; sends = sends; commit = commit }) mine ≡ true
     → p0_profile setup (record { agent = g; cause = Cause.Op s i op; sends = sends; commit = commit }) ≡ true

@@ -1,8 +1,8 @@
--- The events of one agent of a run: each is in the profile, and its row held after the agent's own events before it.
-use Rattle.std.proofs.Common.{◌≡◌, ℕ, Bool, true, false, List, [], ◌∷◌, Option, Some, None, cond, refl, subst, arith}
-use Rattle.std.specs.Prelude.{◌==◌, nat_lt, is_some, option_and_then}
+-- What it says of an agent that its row holds after its own events.
+use Rattle.std.proofs.Common.{◌≡◌, ℕ, Bool, true, false, List, Option, Some, None, cond, refl, subst, arith}
+use Rattle.std.specs.Prelude.{nat_lt, is_some, option_and_then}
 use Rattle.std.specs.Option.{option_map_or}
-use Rattle.std.proofs.lemmas.Bool.{and_parts, cond-true, cond-false, eqb-true, ne_eqb, ltb-true, false≢true}
+use Rattle.std.proofs.lemmas.Bool.{cond-true, cond-false, ne_eqb, ltb-true, false≢true}
 use Rattle.cxl_message.specs.declared.events.Event.{Event}
 use Rattle.cxl_message.specs.declared.identifiers.Bytes64.{Bytes64}
 use Rattle.cxl_message.specs.declared.identifiers.Line.{Line}
@@ -12,40 +12,8 @@ use Rattle.coherence_model.specs.Emission.{Emission}
 use Rattle.coherence_model.specs.Fitting.{is_device}
 use Rattle.coherence_model.specs.HostRows.{host_emission}
 use Rattle.coherence_model.specs.Rows.{if_paid, is_emitted, row_emission, row_holds}
-use Rattle.coherence_model.specs.Rules.{p0_profile}
-use Rattle.coherence_model.specs.Runs.{IsRun}
-use Rattle.coherence_model.specs.Traces.{device, events_of}
+use Rattle.coherence_model.specs.Traces.{device}
 use Rattle.coherence_model.specs.Words.{when}
-use Rattle.coherence_model.proofs.Allowed.{allowed_own, own_half_parts}
-
--- an event of agent g after its own events
-pub record OwnStep (setup : Configuration) (opening : List (Line × Bytes64)) (g : ℕ) (e : Event) (mine : List Event) : Type 0 where
-  pub agent : e.agent ≡ g
-  pub profile : p0_profile setup e ≡ true
-  pub row : row_holds setup opening e mine ≡ true
-
--- the own events of agent g in a run
-abbrev pub OwnRun : Configuration → List (Line × Bytes64) → ℕ → List Event → Type 0
-OwnRun setup opening g [] = Unit {0}
-OwnRun setup opening g (e ∷ mine) = OwnStep setup opening g e mine × OwnRun setup opening g mine
-
-own-event :
-    (setup : Configuration) (opening : List (Line × Bytes64)) (g : ℕ) (e : Event) (past : List Event) (b : Bool) → (e.agent == g) ≡ b
-    → (p0_profile setup e ≡ true) × (row_holds setup opening e (events_of e.agent past) ≡ true) → OwnRun setup opening g (events_of g past)
-    → OwnRun setup opening g (cond b (e ∷ events_of g past) (events_of g past))
-own-event setup opening g e past true is facts before =
-    let same = eqb-true e.agent g is in
-    (record { agent = same; profile = facts.0; row = subst (λ k. row_holds setup opening e (events_of k past) ≡ true) same facts.1 }, before)
-own-event setup opening g e past false is facts before = before
-
--- the events of an agent of a run are its own run
-pub own_run :
-    (setup : Configuration) (opening : List (Line × Bytes64)) (g : ℕ) (t : List Event) → IsRun setup opening t → OwnRun setup opening g (events_of g t)
-own_run setup opening g [] h = tt
-own_run setup opening g (e ∷ past) h =
-    let parts = and_parts _ _ h in
-    let halves = own_half_parts setup opening e (events_of e.agent past) (allowed_own setup opening past e parts.1) in
-    own-event setup opening g e past (e.agent == g) refl (halves.0, halves.2) (own_run setup opening g past parts.0)
 
 -- where a row holds, it gives an emission
 emission-some :

@@ -20,9 +20,9 @@ use Rattle.cxl_message.specs.Codes.{span_len}
 use Rattle.cxl_message.specs.Lists.{is_in}
 use Rattle.cxl_message.specs.Messages.{has_tag, line_in}
 use Rattle.cxl_message.specs.Setup.{Configuration}
-use Rattle.cxl_message.specs.Spans.{lines_of}
+use Rattle.cxl_message.specs.Spans.{aligned, lines_of}
 use Rattle.coherence_model.specs.Buffers.{buffered_requests, buffered_writes, message_with}
-use Rattle.coherence_model.specs.Directory.{Directory, aligned, block_around, has_entry, is_busy, may_evict, may_evict_block, victim_block}
+use Rattle.coherence_model.specs.Directory.{Directory, block_around, has_entry, is_busy, may_evict, may_evict_block, victim_block}
 use Rattle.coherence_model.specs.DirectoryChanges.{answered_lines, directory, directory_after, directory_after_act, directory_after_clean, directory_after_evict, directory_after_finish, directory_after_request, directory_after_serve, directory_after_start, directory_after_take, listing_after_response, listing_after_write, listings_after_finish, with_entries_kept, with_listed, with_listing, with_task, with_task_begun}
 use Rattle.coherence_model.specs.Fitting.{act_fits, cause_fits}
 use Rattle.coherence_model.specs.Tasks.{Task, eviction_task, is_eviction, purpose_of, request_task}
@@ -32,7 +32,8 @@ use Rattle.coherence_lemmas.proofs.Options.{map_some}
 use Rattle.step_laws.proofs.Buffered.{IsBuffered, requests_fit}
 use Rattle.step_laws.proofs.Counts.{Each, each_append, each_filter, each_find, each_from_all, list_any-count}
 use Rattle.step_laws.proofs.LoneSnoops.{each_at}
-use Rattle.step_laws.proofs.OwnRuns.{OwnRun}
+use Rattle.coherence_model.specs.OwnRuns.{IsOwnRun}
+use Rattle.coherence_model.proofs.OwnRuns.{own_event}
 
 -- a task with first line a
 pub record TaskFits (setup : Configuration) (a : ℕ) (t : Task) : Type 0 where
@@ -197,7 +198,7 @@ take-fits setup h (Message.BiSnp op bitag line span) past D fits = fits
 take-fits setup h (Message.Credit c) past D fits = fits
 
 act-after-fits :
-    (setup : Configuration) (opening : List (Line × Bytes64)) (g : ℕ) (act : Act) (sends : Sends) (past : List Event) → OwnRun setup opening device past
+    (setup : Configuration) (opening : List (Line × Bytes64)) (g : ℕ) (act : Act) (sends : Sends) (past : List Event) → IsOwnRun setup opening device past
     → act_fits setup g act ≡ true → DirectoryFits setup (directory setup past)
     → DirectoryFits setup (directory_after_act setup act sends past (directory setup past))
 act-after-fits setup opening g (Act.Conflict line) sends past run named fits = fits
@@ -221,7 +222,7 @@ act-after-fits setup opening g (Act.Finish line) sends past run named fits = fin
 act-after-fits setup opening g (Act.DeviceReturn h c) sends past run named fits = fits
 
 after-fits :
-    (setup : Configuration) (opening : List (Line × Bytes64)) (g : ℕ) (cause : Cause) (sends : Sends) (past : List Event) → OwnRun setup opening device past
+    (setup : Configuration) (opening : List (Line × Bytes64)) (g : ℕ) (cause : Cause) (sends : Sends) (past : List Event) → IsOwnRun setup opening device past
     → cause_fits setup g cause ≡ true → DirectoryFits setup (directory setup past)
     → DirectoryFits setup (directory_after setup cause sends past (directory setup past))
 after-fits setup opening g (Cause.Op s i op) sends past run named fits = fits
@@ -230,8 +231,9 @@ after-fits setup opening g (Cause.Act act) sends past run named fits = act-after
 
 -- the directory of the device in a run fits
 pub directory_fits :
-    (setup : Configuration) (opening : List (Line × Bytes64)) (mine : List Event) → OwnRun setup opening device mine
+    (setup : Configuration) (opening : List (Line × Bytes64)) (mine : List Event) → IsOwnRun setup opening device mine
     → DirectoryFits setup (directory setup mine)
 directory_fits setup opening [] run = record { entries = tt; tasks = λ a t is. absurd (none-some t is) }
 directory_fits setup opening (e ∷ mine) run =
-    after-fits setup opening e.agent e.cause e.sends mine run.1 (profiled setup e run.0.profile).cause (directory_fits setup opening mine run.1)
+    let own = own_event setup opening device e mine run in
+    after-fits setup opening e.agent e.cause e.sends mine own.before (profiled setup e own.profile).cause (directory_fits setup opening mine own.before)

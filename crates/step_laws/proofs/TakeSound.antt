@@ -38,7 +38,7 @@ use Rattle.coherence_model.specs.Transactions.{Transaction, is_read}
 use Rattle.coherence_lemmas.proofs.Allowed.{allowed_parts, emitted}
 use Rattle.coherence_lemmas.proofs.DeviceTakes.{v1_credit-inv, v1_take-inv, v2_response-inv}
 use Rattle.coherence_lemmas.proofs.HostTakes.{h3_completion-inv, h3_data-inv, h3_grant-inv, h4_snoop-inv, h5_conflict_ack-inv, h6_credit-inv}
-use Rattle.coherence_lemmas.proofs.Messages.{message_eq-same}
+use Rattle.cxl_message.proofs.SameMessages.{message_eq-same}
 use Rattle.coherence_lemmas.proofs.Options.{if_some}
 use Rattle.coherence_model.specs.Buffers.{buffered_requests, buffered_writes}
 use Rattle.coherence_model.specs.SentSnoops.{sent_snoop_at}
@@ -46,7 +46,9 @@ use Rattle.step_laws.proofs.Counts.{Each, each_from_all}
 use Rattle.step_laws.proofs.Emissions.{CauseGood, EmissionFits, MessageGood, event-profiled, host-agent, host-low, nothing-fits}
 use Rattle.step_laws.proofs.Flight.{OnChannel, each-in_flight}
 use Rattle.step_laws.proofs.OpenTransactions.{TransactionFits, tagged_fits}
-use Rattle.step_laws.proofs.OwnRuns.{OwnRun, host_is_no_device, own_run}
+use Rattle.coherence_model.specs.OwnRuns.{IsOwnRun}
+use Rattle.coherence_model.proofs.OwnRuns.{events_of_run}
+use Rattle.step_laws.proofs.OwnRuns.{host_is_no_device}
 use Rattle.step_laws.proofs.Takes.{take_event}
 
 -- a message that is sent is well formed, in the profile and fits
@@ -133,7 +135,7 @@ silent-fits : (setup : Configuration) (g : ℕ) (w : Emission) → w ≡ nothing
 silent-fits setup g w is = subst (EmissionFits setup g) (sym is) (nothing-fits setup g)
 
 ndr-fits :
-    (setup : Configuration) (opening : List (Line × Bytes64)) (g : ℕ) (mine : List Event) → OwnRun setup opening g mine → (op : NdrOp) (tag : ℕ) (w : Emission)
+    (setup : Configuration) (opening : List (Line × Bytes64)) (g : ℕ) (mine : List Event) → IsOwnRun setup opening g mine → (op : NdrOp) (tag : ℕ) (w : Emission)
     → host_takes_ndr setup op tag mine ≡ Some w → EmissionFits setup g w
 ndr-fits setup opening g mine run NdrOp.Cmp tag w is = elim (h3_completion-inv (is_write_back_tag setup tag mine)
     (open_with tag mine) w is) [ inl written ↦ silent-fits setup g w written.emits | inr evicted ↦ silent-fits setup g w evicted.emits ]
@@ -147,7 +149,7 @@ ndr-fits setup opening g mine run NdrOp.ConflictAck tag w is = silent-fits setup
 
 -- what a host emits at a take
 host_takes-fits :
-    (setup : Configuration) (opening : List (Line × Bytes64)) (g : ℕ) (mine : List Event) → OwnRun setup opening g mine → (m : Message) (w : Emission)
+    (setup : Configuration) (opening : List (Line × Bytes64)) (g : ℕ) (mine : List Event) → IsOwnRun setup opening g mine → (m : Message) (w : Emission)
     → host_takes setup g m mine ≡ Some w → EmissionFits setup g w
 host_takes-fits setup opening g mine run (Message.Req op meta snp tag line) w is = absurd (none-some w is)
 host_takes-fits setup opening g mine run (Message.MemWr meta snp tag line bytes) w is = absurd (none-some w is)
@@ -177,7 +179,7 @@ device_takes-fits setup h mine (Message.Credit c) w is = silent-fits setup devic
 -- what the receiver of a message emits at its take
 taken-fits :
     (setup : Configuration) → IsWithinLimits setup → (opening : List (Line × Bytes64)) (h : ℕ) (m : Message) (up : Bool) (mine : List Event)
-    → is_host setup h ≡ true → OwnRun setup opening (cond up device h) mine → (w : Emission)
+    → is_host setup h ≡ true → IsOwnRun setup opening (cond up device h) mine → (w : Emission)
     → cond (is_device (cond up device h)) (device_emission setup opening (Cause.Take h m) mine)
     (host_emission setup (cond up device h) (Cause.Take h m) mine) ≡ Some w
     → EmissionFits setup (cond up device h) w
@@ -200,4 +202,4 @@ take_profiled setup limits opening t run h m sends commit host takeable row =
     let good = in-list (MessageGood setup) m (in_flight h (channel_of m) t) (in_flight-good setup opening h (channel_of m) t run) (and_parts _ _ takeable).0 in
     let by = emitted setup opening (take_event g h m sends commit) mine row in
     event-profiled setup g (Cause.Take h m) sends commit by.w by.sends by.commit (take-cause setup limits h m host good)
-    (taken-fits setup limits opening h m (goes_to_device (channel_of m)) mine host (own_run setup opening g t run) by.w by.row)
+    (taken-fits setup limits opening h m (goes_to_device (channel_of m)) mine host (events_of_run setup opening g t run) by.w by.row)

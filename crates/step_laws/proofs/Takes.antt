@@ -20,8 +20,8 @@ use Rattle.step_laws.specs.Events.{cause_eq, event_eq}
 use Rattle.step_laws.proofs.Counts.{each_filter, each_holds, each_weaker, counted, count_by-filter, count_by-flat_map, count_by-none, sum_by-below, sum_by-same, sum_by-zeros}
 use Rattle.step_laws.proofs.Events.{count-step_of}
 use Rattle.step_laws.proofs.Flight.{in_flight-channel}
-use Rattle.coherence_lemmas.proofs.Codes.{same-channel_eq}
-use Rattle.coherence_lemmas.proofs.Messages.{message_eq-same}
+use Rattle.cxl_message.proofs.SameNames.{same-channel_eq}
+use Rattle.cxl_message.proofs.SameMessages.{message_eq-same}
 use Rattle.cxl_message.specs.declared.channels.Channel.{Channel}
 use Rattle.cxl_message.specs.Codes.{channel_eq}
 use Rattle.coherence_model.specs.Next.{channels}

@@ -1,4 +1,4 @@
--- Facts of every run of a setup within its limits by which each act stands once among the next steps.
+-- Facts of every list of a host's own events that its rules allow, by which each act stands once among the next steps.
 use Rattle.std.specs.Prelude.{Bool, IsTrue, List, Some, count_by, is_some, nat_le, sum_by, ℕ, ◌&&◌, ◌+◌, ◌==◌, ◌≡◌, ◌≤◌}
 use Rattle.std.specs.List.{list_all}
 use Rattle.cxl_message.specs.declared.events.Act.{Act}
@@ -9,14 +9,12 @@ use Rattle.cxl_message.specs.declared.identifiers.Tag.{Tag}
 use Rattle.cxl_message.specs.Codes.{span_len}
 use Rattle.cxl_message.specs.Lists.{is_in}
 use Rattle.cxl_message.specs.Profile.{snoop_in_profile}
-use Rattle.cxl_message.specs.Setup.{Configuration, IsWithinLimits}
+use Rattle.cxl_message.specs.Setup.{Configuration}
 use Rattle.cxl_message.specs.Spans.{covers}
 use Rattle.coherence_model.specs.DeviceActs.{device_acts}
-use Rattle.coherence_model.specs.Fitting.{is_host}
 use Rattle.coherence_model.specs.HostActs.{host_acts}
-use Rattle.coherence_model.specs.Runs.{IsRun}
+use Rattle.coherence_model.specs.OwnRuns.{ForEachHostRun}
 use Rattle.coherence_model.specs.Snoops.{Snoop, buffered_snoops, whole_block_at}
-use Rattle.coherence_model.specs.Traces.{events_of}
 use Rattle.coherence_model.specs.Words.{one_if}
 
 -- how often line a is left without an answer in the snoops that a host holds (own rule)
@@ -49,14 +47,12 @@ request_act_count setup opening mine h tag =
 -- each line is left in one held snoop at most, and once there
 abbrev pub HeldSnoopsAreDisjoint : Type 0
 HeldSnoopsAreDisjoint =
-    (setup : Configuration) (opening : List (Line × Bytes64)) → IsWithinLimits setup → (t : List Event) → IsRun setup opening t
-    → (h : ℕ) → IsTrue (is_host setup h) → (a : ℕ) → left_count a (events_of h t) ≤ 1
+    ForEachHostRun (λ setup h mine. (a : ℕ) → left_count a mine ≤ 1)
 
 -- each held snoop fits
 abbrev pub HeldSnoopsFit : Type 0
 HeldSnoopsFit =
-    (setup : Configuration) (opening : List (Line × Bytes64)) → IsWithinLimits setup → (t : List Event) → IsRun setup opening t
-    → (h : ℕ) → IsTrue (is_host setup h) → IsTrue (list_all (held_snoop_fits setup) (buffered_snoops (events_of h t)))
+    ForEachHostRun (λ setup h mine. IsTrue (list_all (held_snoop_fits setup) (buffered_snoops mine)))
 
 -- a line has one act at most
 abbrev pub LinesHaveOneAct : Type 0
@@ -65,10 +61,8 @@ LinesHaveOneAct = (setup : Configuration) (h : ℕ) (mine : List Event) (a : ℕ
 -- a line of a block that may be answered at once has none
 abbrev pub BlocksComeFirst : Type 0
 BlocksComeFirst =
-    (setup : Configuration) (opening : List (Line × Bytes64)) → IsWithinLimits setup → (t : List Event) → IsRun setup opening t
-    → (h : ℕ) → IsTrue (is_host setup h) → (s : Snoop) → whole_block_at s.first (events_of h t) ≡ Some s
-    → holds_at_host setup h (events_of h t) (Act.AnswerBlock (record { 0 = s.first })) ≡ 1
-    → (a : ℕ) → IsTrue (is_in a s.unanswered) → line_act_count setup h (events_of h t) a ≡ 0
+    ForEachHostRun (λ setup h mine. (s : Snoop) → whole_block_at s.first mine ≡ Some s
+    → holds_at_host setup h mine (Act.AnswerBlock (record { 0 = s.first })) ≡ 1 → (a : ℕ) → IsTrue (is_in a s.unanswered) → line_act_count setup h mine a ≡ 0)
 
 -- a request has one act at most
 abbrev pub RequestsHaveOneAct : Type 0

@@ -30,8 +30,9 @@ use Rattle.coherence_model.specs.Words.{one_if}
 use Rattle.request_laws.proofs.HostFacts.{writing_lines}
 use Rattle.request_laws.proofs.OpenPlaced.{open_lines_are_placed}
 use Rattle.request_laws.proofs.Owners.{unused_tags}
-use Rattle.request_laws.proofs.OwnRuns.{events_of_run, host_is_no_device}
-use Rattle.request_laws.specs.OwnRuns.{is_own_run}
+use Rattle.coherence_model.proofs.OwnRuns.{events_of_run}
+use Rattle.request_laws.proofs.OwnRuns.{host_is_no_device}
+use Rattle.coherence_model.specs.OwnRuns.{is_own_run}
 use Rattle.listing_laws.proofs.Copies.{valid_count, writable_count}
 use Rattle.listing_laws.proofs.Fits.{AreFit, open_lines_fit}
 use Rattle.listing_laws.proofs.HostLines.{HostKeptLine, flag_up, host_lines_kept, is_write_stage}

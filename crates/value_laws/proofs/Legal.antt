@@ -19,13 +19,14 @@ use Rattle.cxl_message.specs.Formed.{commit_formed, place_exists}
 use Rattle.cxl_message.specs.Messages.{channel_of}
 use Rattle.cxl_message.specs.Setup.{Configuration, IsWithinLimits}
 use Rattle.coherence_lemmas.proofs.Allowed.{AllowedParts, allowed_parts}
-use Rattle.coherence_lemmas.proofs.Codes.{same-bytes_eq}
+use Rattle.cxl_message.proofs.SameNames.{same-bytes_eq}
 use Rattle.coherence_lemmas.proofs.Rows.{device_row, host_row, host_take-inv}
 use Rattle.coherence_model.specs.Buffers.{buffered_writes}
 use Rattle.coherence_model.specs.Cache.{copy, is_valid}
 use Rattle.coherence_model.specs.Emission.{Emission}
 use Rattle.coherence_model.specs.Fitting.{cause_fits, commit_fits, is_host}
-use Rattle.coherence_model.specs.FlatMemory.{commit_is_legal, flat_line, is_legal, line_after}
+use Rattle.cxl_message.specs.Stores.{line_after}
+use Rattle.coherence_model.specs.FlatMemory.{commit_is_legal, flat_line, is_legal}
 use Rattle.coherence_model.specs.Flight.{in_flight, takes_on}
 use Rattle.coherence_model.specs.HostOperations.{hits}
 use Rattle.coherence_model.specs.HostRows.{host_emission}

@@ -8,7 +8,7 @@ use Rattle.std.proofs.lemmas.List.Sums.{sum_by-cons}
 use Rattle.cxl_message.specs.declared.identifiers.Bytes64.{Bytes64}
 use Rattle.cxl_message.specs.declared.messages.Message.{Message}
 use Rattle.cxl_message.specs.Codes.{bytes_eq}
-use Rattle.coherence_lemmas.proofs.Codes.{same-bytes_eq}
+use Rattle.cxl_message.proofs.SameNames.{same-bytes_eq}
 use Rattle.coherence_model.specs.ValueFacts.{written_bytes}
 use Rattle.request_laws.proofs.Counts.{count_by-cons}
 use Rattle.request_laws.proofs.Each.{Each}

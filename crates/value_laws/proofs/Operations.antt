@@ -19,7 +19,7 @@ use Rattle.cxl_message.specs.Setup.{Configuration}
 use Rattle.coherence_model.specs.Cache.{copy, is_modified, is_valid, is_writable}
 use Rattle.coherence_model.specs.Copies.{Copy, modified, no_copy}
 use Rattle.coherence_model.specs.Emission.{Emission}
-use Rattle.coherence_model.specs.FlatMemory.{line_after}
+use Rattle.cxl_message.specs.Stores.{line_after}
 use Rattle.coherence_model.specs.HostOperations.{eviction_message, hits, request_message}
 use Rattle.coherence_model.specs.ListingFacts.{grants_ownership}
 use Rattle.coherence_model.specs.Snoops.{is_quiet}

@@ -20,7 +20,7 @@ use Rattle.cxl_message.specs.Messages.{has_tag}
 use Rattle.cxl_message.specs.Setup.{Configuration}
 use Rattle.coherence_model.specs.Cache.{copy}
 use Rattle.coherence_model.specs.Copies.{Copy}
-use Rattle.coherence_model.specs.FlatMemory.{line_after}
+use Rattle.cxl_message.specs.Stores.{line_after}
 use Rattle.coherence_model.specs.Flight.{takes_on, without_taken}
 use Rattle.coherence_model.specs.HostTakes.{may_grant}
 use Rattle.coherence_model.specs.ListingFacts.{grants_ownership}

@@ -15,7 +15,7 @@ use Rattle.cxl_message.specs.Codes.{bytes_eq, copy_code}
 use Rattle.cxl_message.specs.Lists.{below}
 use Rattle.cxl_message.specs.Messages.{has_tag}
 use Rattle.cxl_message.specs.Setup.{Configuration}
-use Rattle.coherence_lemmas.proofs.Codes.{same-bytes_eq}
+use Rattle.cxl_message.proofs.SameNames.{same-bytes_eq}
 use Rattle.coherence_model.specs.Buffers.{buffered_writes}
 use Rattle.coherence_model.specs.Cache.{copy, has_copy, is_valid, is_writable}
 use Rattle.coherence_model.specs.Copies.{Copy}

@@ -1,4 +1,4 @@
-// Laws of every run on what lines hold.
+//! Laws of every run on what lines hold.
 #![tactic(auto)]
 
 ghost use Rattle.value_laws.specs.Laws.{RunsAreLegal, ValuesAreKept};

@@ -24,7 +24,7 @@ use Rattle.coherence_model.specs.Weight.{channel_weight, flight_weight, message_
 use Rattle.coherence_lemmas.proofs.Allowed.{AllowedParts}
 use Rattle.coherence_lemmas.proofs.Directions.{send_parts, take_parts}
 use Rattle.coherence_lemmas.proofs.Flight.{taken_is_there}
-use Rattle.coherence_lemmas.proofs.Messages.{message_eq-same}
+use Rattle.cxl_message.proofs.SameMessages.{message_eq-same}
 use Rattle.step_laws.proofs.Counts.{sum_by-below}
 use Rattle.weight_laws.proofs.Sums.{sum_plus, sum_same}
 

@@ -28,7 +28,7 @@ use Rattle.entry_laws.proofs.DeviceRows.{FoundRequest}
 use Rattle.entry_laws.proofs.DirectorySteps.{DirectoryKept}
 use Rattle.entry_laws.proofs.Kept.{directory_is_kept}
 use Rattle.entry_laws.proofs.Laws.{request_tags_are_distinct, tasks_are_named}
-use Rattle.entry_laws.proofs.OwnRuns.{device_run}
+use Rattle.coherence_model.proofs.OwnRuns.{events_of_run}
 use Rattle.weight_laws.proofs.SharedRuns.{shared_writes_serve}
 use Rattle.weight_laws.specs.ListingLaws.{ServesShared}
 
@@ -66,9 +66,9 @@ only_one a b h = elim (or_cases (a == b) false h) [ inl same ↦ eqb-true a b sa
 -- so much is known after every run
 pub device_known : (setup : Configuration) (opening : List (Line × Bytes64)) → IsWithinLimits setup → (t : List Event) → IsRun setup opening t → DeviceKnown setup (events_of device t)
 device_known setup opening limits t run = record {
-  kept = directory_is_kept setup (events_of device t) (device_run setup opening t run);
-  lines = λ h tag r. request_line_exists setup h tag (buffered_requests h (events_of device t)) r (requests_are_taken setup (events_of device t) (device_run setup opening t run) h);
-  distinct = request_tags_are_distinct setup opening t run;
-  named = tasks_are_named setup opening t run;
+  kept = directory_is_kept setup opening (events_of device t) (events_of_run setup opening device t run);
+  lines = λ h tag r. request_line_exists setup h tag (buffered_requests h (events_of device t)) r (requests_are_taken setup opening (events_of device t) (events_of_run setup opening device t run) h);
+  distinct = request_tags_are_distinct setup opening (events_of device t) (events_of_run setup opening device t run);
+  named = tasks_are_named setup opening (events_of device t) (events_of_run setup opening device t run);
   shared = λ k host tag meta snp own_tag line bytes found shared. shared_writes_serve setup opening limits t run k host tag meta snp own_tag line bytes found shared;
 }

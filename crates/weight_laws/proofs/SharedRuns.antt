@@ -35,6 +35,7 @@ use Rattle.coherence_model.specs.Tasks.{Purpose}
 use Rattle.coherence_model.specs.Traces.{device, events_of}
 use Rattle.coherence_model.specs.Transactions.{Kind, Transaction}
 use Rattle.coherence_model.specs.WriteBacks.{completes, is_write_back_open}
+use Rattle.coherence_model.proofs.OwnRuns.{events_of_run}
 use Rattle.coherence_lemmas.proofs.Allowed.{AllowedParts, allowed_parts}
 use Rattle.coherence_lemmas.proofs.Directions.{take_parts}
 use Rattle.coherence_lemmas.proofs.Flight.{taken_is_there}
@@ -222,7 +223,7 @@ shared_writes_serve setup opening limits t run h host tag meta snp own_tag line 
     let said = (found_message (Said setup h t) tag (Message.MemWr meta snp own_tag line bytes) (buffered_writes h (events_of device t)) inv.1 found).holds shared in
     let writing = said.1 in
     let was = held_snoops_were_sent setup opening limits t run h host line.0 writing.s writing.there in
-    let of = snoops_have_tasks setup opening t run h writing.s.first was.sent was.asked in
+    let of = snoops_have_tasks setup opening (events_of device t) (events_of_run setup opening device t run) h writing.s.first was.sent was.asked in
     record {
       first = writing.s.first;
       task = of.task;

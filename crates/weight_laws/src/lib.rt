@@ -1,4 +1,4 @@
-// Laws of the weight over every run: each event that isn't an operation lowers it.
+//! Laws of the weight over every run: each event that isn't an operation lowers it.
 #![tactic(auto)]
 
 ghost use Rattle.weight_laws.specs.Laws.{RunsAreShort, WeightsAreBounded};

@@ -1,5 +1,5 @@
-// Worked steps of single agents, under peers that may break the rules: each function has an empty body, and its
-// contract is theorems that the check computes.
+//! Worked steps of single agents, under peers that may break the rules: each function has an empty body, and its
+//! contract is theorems that the check computes.
 #![tactic(auto)]
 
 ghost use Rattle.worked_agents.specs.AgainAndNoSuchLine.{AgainAndNoSuchLineIsAnswered};

@@ -1,6 +1,6 @@
-// The worked traces: each function has an empty body, and its contract is a theorem that the check computes.
-//
-// A driven trace is given event by event, as the rules and the order of next steps make it of a script.
+//! The worked traces: each function has an empty body, and its contract is a theorem that the check computes.
+//!
+//! A driven trace is given event by event, as the rules and the order of next steps make it of a script.
 #![tactic(auto)]
 
 ghost use Rattle.worked_runs.specs.AnOpening.{AnOpeningIsDriven};

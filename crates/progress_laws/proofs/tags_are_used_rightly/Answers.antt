@@ -1,6 +1,5 @@
 -- By recursion over the run, and over the host's own events.
-use Rattle.request_laws.proofs.OwnRuns.{events_of_run, host_is_no_device}
-use Rattle.coherence_model.specs.Traces.{events_of}
+use Rattle.request_laws.proofs.OwnRuns.{host_is_no_device}
 use Rattle.progress_laws.proofs.ConflictKinds.{conflicts_are_declared}
 use Rattle.progress_laws.proofs.SharedGrants.{shared_grants_meet}
 use Rattle.progress_laws.proofs.tags_are_used_rightly.Goals as goal
@@ -9,5 +8,5 @@ pub returns-clause-grants : goal.returns-clause-grants
 returns-clause-grants c setup opening limits t run h host a o is waits = shared_grants_meet setup opening limits h host t run a o is waits
 
 pub returns-clause-conflicts : goal.returns-clause-conflicts
-returns-clause-conflicts c setup opening limits t run h host a o is conflict =
-    conflicts_are_declared setup opening h (host_is_no_device setup limits h host) (events_of h t) (events_of_run setup opening h t run) a o is conflict
+returns-clause-conflicts c setup opening limits h host mine run a o is conflict =
+    conflicts_are_declared setup opening h (host_is_no_device setup limits h host) mine run a o is conflict

@@ -1,5 +1,5 @@
 -- A line that comes after the last, with bytes that aren't all zero, keeps the lines in order.
-use Rattle.std.proofs.Common.{◌≡◌, true, false, rules, is_ok, sym, ap, ◌∙◌}
+use Rattle.std.proofs.Common.{◌≡◌, true, false, rules, is_ok}
 use Rattle.cxl_message.specs.Codes.{bytes_eq}
 use Rattle.cxl_message.specs.Opening.{is_after_last, zero_bytes}
 use Rattle.cxl_message.proofs.Ascending.{opening_pushed}
