@@ -1,5 +1,5 @@
-// The work that `bench/run` times: a buffer of mixed event records is encoded, decoded or copied, as many rounds as are
-// asked for.
+//! The work that `bench/run` times: a buffer of mixed event records is encoded, decoded or copied, as many rounds as are
+//! asked for.
 #![tactic(auto)]
 
 mod work;

@@ -1,10 +1,13 @@
 // Rounds over one buffer of mixed event records, each group of eleven as in `bench_events`.
+ghost use Rattle.std.specs.Prelude.{◌≡◌};
+
 use bench_events::{
     answered, asked, begun, committed, conflicted, granted, group, returned, snooped, started,
     stored, written,
 };
-use cxl_codec::{decode_event_into, encode_event};
-use cxl_message::{Event, Sends};
+use cxl_codec::{decode_room, encode_room};
+use cxl_message::Event;
+use event_room::{EventRoom, SendsRef};
 use std::alloc::{AllocError, Global};
 
 /// What is timed.
@@ -62,15 +65,17 @@ pub fn run(alloc: Global, work: Work, groups: u32, rounds: u32) -> Result<Tally,
         weight: 0,
         same: true,
     };
-    let mut room = Vec::new(alloc);
-    room.extend_from_slice(&group())?;
+    let mut rooms = Vec::new(alloc);
+    for event in &group() {
+        rooms.push(room_of(event))?;
+    }
     for _ in 0..rounds {
         match work {
             Work::Encode => {
                 copy.clear();
                 fill(groups, &mut copy)?;
             }
-            Work::Decode => decode(groups, &buffer, &mut room, &mut tally),
+            Work::Decode => decode(groups, &buffer, &mut rooms, &mut tally),
             Work::Copy => {
                 copy.clear();
                 copy.extend_from_slice(&buffer)?;
@@ -78,56 +83,75 @@ pub fn run(alloc: Global, work: Work, groups: u32, rounds: u32) -> Result<Tally,
         }
         tally.add_bytes(buffer.len());
     }
-    tally.same = room.as_slice() == group().as_slice();
+    tally.same = rooms
+        .iter()
+        .zip(&group())
+        .all(|(room, event)| room.event() == *event);
     Ok(tally)
+}
+
+/// The event in a room of its own.
+fn room_of(event: &Event) -> EventRoom
+    ensures { result ≡ event.now }
+{
+    let mut room = EventRoom::new();
+    room.set(event);
+    room
 }
 
 /// Appends so many groups of records.
 fn fill(groups: u32, out: &mut Vec<u8>) -> Result<(), AllocError> {
-    let (begun, asked, started, snooped) = (begun(), asked(), started(), snooped());
-    let (conflicted, answered, granted) = (conflicted(), answered(), granted());
-    let (committed, stored, written) = (committed(), stored(), written());
-    let returned = returned();
+    let begun = room_of(&begun());
+    let asked = room_of(&asked());
+    let started = room_of(&started());
+    let snooped = room_of(&snooped());
+    let conflicted = room_of(&conflicted());
+    let answered = room_of(&answered());
+    let granted = room_of(&granted());
+    let committed = room_of(&committed());
+    let stored = room_of(&stored());
+    let written = room_of(&written());
+    let returned = room_of(&returned());
     for _ in 0..groups {
-        encode_event(&begun, out)?;
-        encode_event(&asked, out)?;
-        encode_event(&started, out)?;
-        encode_event(&snooped, out)?;
-        encode_event(&conflicted, out)?;
-        encode_event(&answered, out)?;
-        encode_event(&granted, out)?;
-        encode_event(&committed, out)?;
-        encode_event(&stored, out)?;
-        encode_event(&written, out)?;
-        encode_event(&returned, out)?;
+        encode_room(&begun, out)?;
+        encode_room(&asked, out)?;
+        encode_room(&started, out)?;
+        encode_room(&snooped, out)?;
+        encode_room(&conflicted, out)?;
+        encode_room(&answered, out)?;
+        encode_room(&granted, out)?;
+        encode_room(&committed, out)?;
+        encode_room(&stored, out)?;
+        encode_room(&written, out)?;
+        encode_room(&returned, out)?;
     }
     Ok(())
 }
 
-/// Decodes so many groups of records from the front into the room, as far as there are any.
-fn decode(groups: u32, bytes: &[u8], room: &mut [Event], tally: &mut Tally) {
+/// Decodes so many groups of records from the front into the rooms, as far as there are any.
+fn decode(groups: u32, bytes: &[u8], rooms: &mut [EventRoom], tally: &mut Tally) {
     let mut rest = bytes;
     for _ in 0..groups {
-        for event in room.iter_mut() {
-            let Ok(length) = decode_event_into(rest, event) else {
+        for room in rooms.iter_mut() {
+            let Ok(length) = decode_room(rest, room) else {
                 return;
             };
-            tally.add_record(weight_of(event));
+            tally.add_record(weight_of(room));
             rest = rest.get(length..).unwrap_or(&[]);
         }
     }
 }
 
 /// A number that depends on the parts of an event.
-fn weight_of(event: &Event) -> u64 {
-    let sent: u64 = match &event.sends {
-        Sends::Nothing => 0,
-        Sends::One(_) => 1,
-        Sends::Two(_, _) => 2,
+fn weight_of(event: &EventRoom) -> u64 {
+    let sent: u64 = match event.sends() {
+        SendsRef::Nothing => 0,
+        SendsRef::One(_) => 1,
+        SendsRef::Two(_, _) => 2,
     };
-    let seen = match &event.commit {
+    let seen = match event.commit() {
         None => 0,
-        Some(commit) => u64::from(commit.value.0[63]),
+        Some(commit) => u64::from(commit.value[63]),
     };
     sent.wrapping_add(seen)
 }

@@ -3,10 +3,11 @@ use Rattle.std.proofs.Common.{◌≡◌, ℕ, ◌+◌, ◌-◌, ◌*◌, ◌^◌
 use Rattle.std.specs.Prelude.{IsTrue, nat_lt, map}
 use Rattle.std.specs.List.{list_all, AllByRecursion}
 use Rattle.std.specs.Int.{w16, w64, byte_at}
-use Rattle.std.proofs.lemmas.Bool.{lt-ltb, ltb-true, and_parts, and_from}
+use Rattle.std.proofs.lemmas.Bool.{lt-ltb, ltb-true, and_parts, and_from, le-leb, leb-true}
 use Rattle.cxl_message.specs.declared.identifiers.Line.{Line}
 use Rattle.cxl_message.specs.declared.identifiers.Bytes64.{Bytes64}
 use Rattle.cxl_message.specs.Setup.{Configuration, IsWithinLimits}
+use Rattle.cxl_codec.specs.VersionOne.{HeaderFits}
 use Rattle.cxl_codec.specs.declared.fields.FieldName.{FieldName}
 use Rattle.cxl_codec.specs.Cells.{field, free, number}
 use Rattle.cxl_codec.specs.Header.{magic_cells, stream_cells, header_cells}
@@ -130,7 +131,7 @@ within_limits hosts lines high low ways tags credits streams h l i o w t c s = r
   lines = (omega arith, omega arith);
   entries = (omega arith, omega (arith, i.1));
   ways = (omega arith, omega arith);
-  tags = t;
+  tags = (omega (arith, t.0), omega (arith, t.1));
   credits = c;
   streams = s.0;
   stream_hosts = hosts_below hosts streams h.0 s.1;
@@ -148,7 +149,7 @@ cells_of_setup hosts lines high low ways tags credits streams i o =
     rw (e1, e2, e3, e4) refl
 
 -- a header that is read is spelled so
-header_sound : Sound (Spells IsWithinLimits header_cells) header_at
+header_sound : Sound (Spells HeaderFits header_cells) header_at
 unfolding header_at setup_of
 header_sound =
     then_sound _ _ _ magic_meets _ _ (λ _ _.
@@ -161,7 +162,7 @@ header_sound =
     then_sound _ _ _ (within_meets FieldName.Tags 2 64 (omega arith) (omega arith)) _ _ (λ tags t.
     then_sound _ _ _ (within_meets FieldName.Credits 2 64 (omega arith) (omega arith)) _ _ (λ credits c.
     ends_sound _ _ _ (streams_meets hosts h.1) _ (λ streams. setup_of hosts lines high low ways tags credits streams) (λ streams s.
-    (within_limits hosts lines high low ways tags credits streams h l i o w t c s, sym (cells_of_setup hosts lines high low ways tags credits streams (omega (arith, i.1)) o))))))))))))
+    (record { limits = within_limits hosts lines high low ways tags credits streams h l i o w t c s; version_one = le-leb tags 64 t.1 }, sym (cells_of_setup hosts lines high low ways tags credits streams (omega (arith, i.1)) o))))))))))))
 
 -- a setup is found again from the numbers of its header
 rebuilt : (s : Configuration) → IsWithinLimits s → setup_of s.hosts (s.lines - 1) (byte_at 1 (s.entries - 1)) (byte_at 0 (s.entries - 1)) (s.ways - 1) s.tags s.credits s.streams ≡ s
@@ -173,27 +174,27 @@ rebuilt s fits =
     rw (e1, e2, e3) refl
 
 -- a header that is spelled is read again
-header_read : (s : Configuration) → IsWithinLimits s → IsRead header_at s (header_cells s)
+header_read : (s : Configuration) → HeaderFits s → IsRead header_at s (header_cells s)
 unfolding header_at setup_of IsMagic
 header_read s fits =
     let high : ℕ = byte_at 1 (s.entries - 1) in
     let low : ℕ = byte_at 0 (s.entries - 1) in
-    subst (λ (value : Configuration). IsRead header_at value (header_cells s)) (rebuilt s fits)
+    subst (λ (value : Configuration). IsRead header_at value (header_cells s)) (rebuilt s fits.limits)
     (then_read _ _ _ (magic_meets.complete 0x54 refl) _ _ _
     (then_read _ _ _ ((exact_meets FieldName.Version 1 (omega arith)).complete 1 refl) _ _ _
-    (then_read _ _ _ ((within_meets FieldName.Hosts 1 16 (omega arith) (omega arith)).complete s.hosts fits.hosts) _ _ _
-    (then_read _ _ _ (tag_meets.complete (s.lines - 1) (omega (arith, fits.lines.0, fits.lines.1))) _ _ _
-    (then_read _ _ _ ((within_meets FieldName.Entries 0 15 (omega arith) (omega arith)).complete high (omega arith, omega (arith, fits.entries.0, fits.entries.1))) _ _ _
+    (then_read _ _ _ ((within_meets FieldName.Hosts 1 16 (omega arith) (omega arith)).complete s.hosts fits.limits.hosts) _ _ _
+    (then_read _ _ _ (tag_meets.complete (s.lines - 1) (omega (arith, fits.limits.lines.0, fits.limits.lines.1))) _ _ _
+    (then_read _ _ _ ((within_meets FieldName.Entries 0 15 (omega arith) (omega arith)).complete high (omega arith, omega (arith, fits.limits.entries.0, fits.limits.entries.1))) _ _ _
     (then_read _ _ _ (free_meets.complete low (omega arith)) _ _ _
-    (then_read _ _ _ (free_meets.complete (s.ways - 1) (omega (arith, fits.ways.0, fits.ways.1))) _ _ _
-    (then_read _ _ _ ((within_meets FieldName.Tags 2 64 (omega arith) (omega arith)).complete s.tags fits.tags) _ _ _
-    (then_read _ _ _ ((within_meets FieldName.Credits 2 64 (omega arith) (omega arith)).complete s.credits fits.credits) _ _ _
-    (ends_read _ _ _ ((streams_meets s.hosts fits.hosts.1).complete s.streams (fits.streams, hosts_from s.hosts s.streams fits.stream_hosts)) (λ streams. setup_of s.hosts (s.lines - 1) high low (s.ways - 1) s.tags s.credits streams)))))))))))
+    (then_read _ _ _ (free_meets.complete (s.ways - 1) (omega (arith, fits.limits.ways.0, fits.limits.ways.1))) _ _ _
+    (then_read _ _ _ ((within_meets FieldName.Tags 2 64 (omega arith) (omega arith)).complete s.tags (fits.limits.tags.0, leb-true s.tags 64 fits.version_one)) _ _ _
+    (then_read _ _ _ ((within_meets FieldName.Credits 2 64 (omega arith) (omega arith)).complete s.credits fits.limits.credits) _ _ _
+    (ends_read _ _ _ ((streams_meets s.hosts fits.limits.hosts.1).complete s.streams (fits.limits.streams, hosts_from s.hosts s.streams fits.limits.stream_hosts)) (λ streams. setup_of s.hosts (s.lines - 1) high low (s.ways - 1) s.tags s.credits streams)))))))))))
 
 -- the reader of headers meets the grammar
-pub header_meets : Meets IsWithinLimits header_cells header_at
+pub header_meets : Meets HeaderFits header_cells header_at
 header_meets = record { sound = header_sound; complete = header_read }
 
 -- a header that is read is one of a setup within its limits
 pub header_within : (bytes : List ℕ) → IsBytes bytes → (s : Configuration) (rest : List ℕ) → header_at bytes ≡ Ok (s, rest) → IsWithinLimits s
-header_within bytes each s rest e = (found IsWithinLimits header_cells header_at header_meets bytes each s rest e).fits
+header_within bytes each s rest e = (found HeaderFits header_cells header_at header_meets bytes each s rest e).fits.limits

@@ -16,3 +16,6 @@ pub mod ScanFields
 pub mod ScanReads
 pub mod ScanBehind
 pub mod ScanRoom
+pub mod ZeroRuns
+pub mod RoomReads
+pub mod Puts

@@ -2,7 +2,8 @@
 use Rattle.std.proofs.Common.{◌≡◌, ◌≢◌, ℕ, ◌≤◌, List, [], ◌∷◌, ◌++◌, length, refl, sym, ap, ◌∙◌, append_assoc, arith}
 use Rattle.std.specs.List.{flat_map, AllByRecursion}
 use Rattle.std.proofs.lemmas.Bool.{and_parts, leb-true}
-use Rattle.cxl_message.specs.Setup.{Configuration, IsWithinLimits}
+use Rattle.cxl_message.specs.Setup.{Configuration}
+use Rattle.cxl_codec.specs.VersionOne.{HeaderFits}
 use Rattle.cxl_message.specs.declared.identifiers.Line.{Line}
 use Rattle.cxl_message.specs.declared.identifiers.Bytes64.{Bytes64}
 use Rattle.cxl_message.specs.declared.events.Event.{Event}
@@ -84,6 +85,6 @@ regrouped s os es = append_assoc (header_bytes s ++ flat_map opening_bytes os) (
 pub determined : TraceIsDetermined
 determined s t os ps es fs fit gift e =
     let whole = sym (regrouped s os es) ∙ e ∙ regrouped t ps fs in
-    let head = one_spelling IsWithinLimits header_cells header_at header_meets s t (flat_map opening_bytes os ++ ended es (length es)) (flat_map opening_bytes ps ++ ended fs (length fs)) fit.limits gift.limits whole in
+    let head = one_spelling HeaderFits header_cells header_at header_meets s t (flat_map opening_bytes os ++ ended es (length es)) (flat_map opening_bytes ps ++ ended fs (length fs)) fit.limits gift.limits whole in
     let body = openings_same os ps (ended es (length es)) (ended fs (length fs)) fit.each_opening gift.each_opening (starts es (length es) fit.each_event) (starts fs (length fs) gift.each_event) head.1 in
     (head.0, body.0, events_same es fs (length es) (length fs) fit.each_event gift.each_event body.1)

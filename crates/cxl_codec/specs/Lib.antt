@@ -1,5 +1,6 @@
 pub mod Cells
 pub mod Names
+pub mod VersionOne
 pub mod Header
 pub mod Openings
 pub mod Messages
@@ -13,3 +14,4 @@ pub mod Reading
 pub mod ReadingEvents
 pub mod ReadingFiles
 pub mod Scanning
+pub mod ReadingRooms

@@ -1,12 +1,13 @@
 -- Whole traces. Every rule here is an own rule.
 use Rattle.std.specs.Prelude.{◌≡◌, ℕ, List, ◌++◌, length}
 use Rattle.std.specs.List.{flat_map, AllByRecursion}
-use Rattle.cxl_message.specs.Setup.{Configuration, IsWithinLimits}
+use Rattle.cxl_message.specs.Setup.{Configuration}
 use Rattle.cxl_message.specs.declared.identifiers.Line.{Line}
 use Rattle.cxl_message.specs.declared.identifiers.Bytes64.{Bytes64}
 use Rattle.cxl_message.specs.declared.events.Event.{Event}
 use Rattle.cxl_codec.specs.Cells.{bytes_of}
 use Rattle.cxl_codec.specs.Header.{header_cells}
+use Rattle.cxl_codec.specs.VersionOne.{HeaderFits}
 use Rattle.cxl_codec.specs.Openings.{opening_cells, OpeningFits}
 use Rattle.cxl_codec.specs.Events.{event_cells, EventFits}
 use Rattle.cxl_codec.specs.EndRecord.{end_cells, EndFits}
@@ -33,7 +34,7 @@ trace_bytes setup openings events = header_bytes setup ++ flat_map opening_bytes
 
 -- a setup, openings and events that have a trace
 pub record TraceFits (setup : Configuration) (openings : List (Line × Bytes64)) (events : List Event) : Type 0 where
-  pub limits : IsWithinLimits setup
+  pub limits : HeaderFits setup
   pub each_opening : AllByRecursion OpeningFits openings
   pub each_event : AllByRecursion EventFits events
   pub count : EndFits (length events)

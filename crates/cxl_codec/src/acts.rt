@@ -1,14 +1,14 @@
 // The acts inside event records.
-ghost use Rattle.std.specs.Prelude.{◌≡◌, ◌<◌, ◌^◌, ◌+◌, ◌≤◌, ◌++◌, vec_len, vec_capacity};
+ghost use Rattle.std.specs.Prelude.{◌≡◌, ◌<◌, ◌^◌, ◌+◌, ◌≤◌, ◌++◌, IsTrue, vec_len, vec_capacity};
 ghost use Rattle.cxl_codec.specs.Cells.{bytes_of, kind, field, number};
 ghost use Rattle.cxl_codec.specs.Events.{act_cells, ActInRange};
 ghost use Rattle.cxl_codec.specs.Reading.{Gives};
+ghost use Rattle.cxl_codec.specs.VersionOne.{act_fits_version_one};
 ghost use Rattle.cxl_codec.specs.ReadingEvents.{act_fields_at, act_at};
 ghost use Rattle.std.specs.Prelude.{◌∷◌};
 ghost use Rattle.std.specs.Int.{w16, w32};
 ghost use Rattle.cxl_codec.specs.declared.fields.FieldName.{FieldName};
 
-use crate::codes::channel_code;
 use crate::faults::Fault;
 use crate::fields::FieldName;
 use crate::kinds::{ActKind, LineActKind, TaggedActKind, read_act_kind};
@@ -19,30 +19,31 @@ use cxl_message::{Act, Line, Tag};
 /// How many bytes an act has at most.
 pub const LONGEST_ACT: usize = 6;
 
-/// Appends an act. There is room for it.
-pub fn put_act(out: &mut Vec<u8>, act: &Act)
-    requires { vec_len out.old + LONGEST_ACT ≤ vec_capacity out.old }
-    ensures items { out.new.items ≡ out.old.items ++ bytes_of (act_cells act.now) }
-    ensures range { ActInRange act.now }
+/// Appends an act, whose Tag version 1 has room for. There is room for it.
+pub fn put_act(out: &mut Vec<u8>, act: Act)
+    requires room { vec_len out.old + LONGEST_ACT ≤ vec_capacity out.old }
+    requires version_one { IsTrue (act_fits_version_one act) }
+    ensures items { out.new.items ≡ out.old.items ++ bytes_of (act_cells act) }
+    ensures range { ActInRange act }
     ensures len { vec_len out.new ≤ vec_len out.old + LONGEST_ACT }
     ensures capacity { vec_capacity out.old ≤ vec_capacity out.new }
 {
     match act {
-        Act::Conflict(line) => put_line_act(out, 0x01, *line),
-        Act::WriteBack(line) => put_line_act(out, 0x02, *line),
-        Act::Answer(line) => put_line_act(out, 0x03, *line),
-        Act::AnswerBlock(line) => put_line_act(out, 0x04, *line),
-        Act::HostReturn(channel) => put(out, &[0x05, channel_code(*channel)]),
-        Act::Serve { host, tag } => put_tag_act(out, 0x11, *host, *tag),
-        Act::Clean { host, tag } => put_tag_act(out, 0x12, *host, *tag),
-        Act::Start { host, tag } => put_tag_act(out, 0x13, *host, *tag),
-        Act::Evict { host, tag } => put_tag_act(out, 0x14, *host, *tag),
+        Act::Conflict(line) => put_line_act(out, 0x01, line),
+        Act::WriteBack(line) => put_line_act(out, 0x02, line),
+        Act::Answer(line) => put_line_act(out, 0x03, line),
+        Act::AnswerBlock(line) => put_line_act(out, 0x04, line),
+        Act::HostReturn(channel) => put(out, &[0x05, channel.code()]),
+        Act::Serve { host, tag } => put_tag_act(out, 0x11, host, tag),
+        Act::Clean { host, tag } => put_tag_act(out, 0x12, host, tag),
+        Act::Start { host, tag } => put_tag_act(out, 0x13, host, tag),
+        Act::Evict { host, tag } => put_tag_act(out, 0x14, host, tag),
         Act::Snoop { host, line } => {
             let [l3, l2, l1, l0] = line.0.to_be_bytes();
-            put(out, &[0x15, *host, l3, l2, l1, l0])
+            put(out, &[0x15, host, l3, l2, l1, l0])
         }
-        Act::Finish(line) => put_line_act(out, 0x16, *line),
-        Act::DeviceReturn { host, channel } => put(out, &[0x17, *host, channel_code(*channel)]),
+        Act::Finish(line) => put_line_act(out, 0x16, line),
+        Act::DeviceReturn { host, channel } => put(out, &[0x17, host, channel.code()]),
     }
 }
 
@@ -62,13 +63,14 @@ fn put_line_act(out: &mut Vec<u8>, code: u8, line: Line)
 /// Appends an act of this kind that names a host and a tag. There is room for it.
 #[inline(always)]
 fn put_tag_act(out: &mut Vec<u8>, code: u8, host: u8, tag: Tag)
-    requires { vec_len out.old + 4 ≤ vec_capacity out.old }
+    requires room { vec_len out.old + 4 ≤ vec_capacity out.old }
+    requires short { tag.0 < 2 ^ 16 }
     ensures items { out.new.items ≡ out.old.items ++ bytes_of (kind code ∷ field FieldName.Host host ∷ number w16 tag.0) }
     ensures range { tag.0 < 2 ^ 16 }
     ensures len { vec_len out.new ≡ vec_len out.old + 4 }
     ensures capacity { vec_capacity out.old ≤ vec_capacity out.new }
 {
-    let [t1, t0] = tag.0.to_be_bytes();
+    let [t1, t0] = (tag.0 as u16).to_be_bytes();
     put(out, &[code, host, t1, t0]);
 }
 

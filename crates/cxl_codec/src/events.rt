@@ -1,33 +1,37 @@
 // The event records of a trace.
-ghost use Rattle.std.specs.Prelude.{◌≡◌, ◌+◌, ◌≤◌, ◌++◌, IsTrue, OnOk, OnErr, IfOk, IfErr, IfSome, vec_len, vec_capacity};
+ghost use Rattle.std.specs.Prelude.{◌≡◌, ◌+◌, ◌≤◌, ◌++◌, IsTrue, OnOk, OnErr, IfOk, IfErr, IfSome, option_map, vec_len, vec_capacity};
 ghost use Rattle.cxl_message.specs.Formed.{well_formed as is_well_formed};
-ghost use Rattle.cxl_codec.specs.Cells.{bytes_of};
-ghost use Rattle.cxl_codec.specs.Events.{cause_cells, out_cells, sends_cells, commit_cells, event_cells, CauseInRange, CommitInRange, EventFits};
-ghost use Rattle.cxl_codec.specs.Messages.{MessageInRange};
 ghost use Rattle.cxl_message.specs.Events.{outs};
-ghost use Rattle.std.specs.List.{AllByRecursion};
+ghost use Rattle.cxl_message.specs.declared.events.Sends.{Sends};
+ghost use Rattle.cxl_message.specs.declared.events.Cause.{Cause};
+ghost use Rattle.event_room.specs.Parts.{message_of, op_of, cause_of, sends_of, commit_of};
+ghost use Rattle.event_room.specs.Made.{may_send};
+ghost use Rattle.std.specs.List.{AllByRecursion, list_all};
+ghost use Rattle.cxl_codec.specs.Cells.{bytes_of};
+ghost use Rattle.cxl_codec.specs.Events.{cause_cells, sends_cells, commit_cells, event_cells, CauseInRange, CommitInRange, EventFits};
+ghost use Rattle.cxl_codec.specs.Messages.{MessageInRange};
 ghost use Rattle.cxl_codec.specs.Grammar.{BeginsWith, Refuses};
 ghost use Rattle.cxl_codec.specs.Traces.{event_bytes};
 ghost use Rattle.cxl_codec.specs.Reading.{Gives};
+ghost use Rattle.cxl_codec.specs.VersionOne.{act_fits_version_one, cause_fits_version_one, fits_version_one, message_fits_version_one};
 ghost use Rattle.cxl_codec.specs.declared.kinds.CauseKind.{CauseKind};
-ghost use Rattle.cxl_codec.specs.ReadingEvents.{cause_fields_at, cause_at, out_at, outs_at, sends_at, flagged_at, commit_at, event_at};
+ghost use Rattle.cxl_codec.specs.ReadingRooms.{begun_fields_at, begun_at, sent_at, all_sent_at, sends_sent_at, flagged_set_at, commit_set_at, room_event_at};
 
 use crate::acts::{put_act, read_act};
 use crate::faults::{Fault, refusal};
 use crate::fields::FieldName;
 use crate::kinds::{CauseKind, read_cause_kind};
-use crate::messages::{BLANK_MESSAGE, put_message, read_message};
-use crate::operations::{BLANK_OP, put_op, read_op};
+use crate::messages::{put_message, read_message};
+use crate::operations::{put_op, read_op};
 use crate::reading::{read_payload, read_u32, read_within};
 use crate::refusals::DecodeRefusal;
 use crate::writing::{put, put_payload};
-use cxl_message::{Act, Bytes64, Cause, Commit, Event, Line, Out, Sends};
+use cxl_message::{Act, Event};
+use event_room::{CauseRef, CommitRef, EventRoom, MessageRef, OpRef, SendsRef};
 use std::alloc::AllocError;
 
 /// How many bytes a cause has at most.
 const LONGEST_CAUSE: usize = 75;
-/// How many bytes a sent message has at most.
-const LONGEST_OUT: usize = 74;
 /// How many bytes the messages of an event have at most.
 const LONGEST_SENDS: usize = 149;
 /// How many bytes a commit has at most.
@@ -35,100 +39,129 @@ const LONGEST_COMMIT: usize = 139;
 /// How many bytes an event has at most.
 const LONGEST_EVENT: usize = 364;
 
-/// An event to be written over.
-const BLANK: Event = Event {
-    agent: 0,
-    cause: Cause::Act(Act::Finish(Line(0))),
-    sends: Sends::Nothing,
-    commit: None,
-};
+/// Appends the record of the event in a room, which is well formed and whose Tags are below 65,536: its agent, cause,
+/// sends and commit (own rule). The error is want of memory, and `out` is then as before.
+pub fn encode_room(room: &EventRoom, out: &mut Vec<u8>) -> Result<(), AllocError>
+    requires formed { IsTrue (is_well_formed room.now) }
+    requires version_one { IsTrue (fits_version_one room.now) }
+    ensures ok { OnOk result (out.new.items ≡ out.old.items ++ event_bytes room.now) }
+    ensures fits { OnOk result (EventFits room.now) }
+    ensures err { OnErr result (out.new.items ≡ out.old.items) }
+{
+    out.reserve(LONGEST_EVENT)?;
+    put(out, &[room.agent()]);
+    put_cause(out, room.cause());
+    put_sends(out, room.sends());
+    put_commit(out, room.commit());
+    Ok(())
+}
 
-/// A sent message to be written over.
-const BLANK_OUT: Out = Out {
-    host: 0,
-    message: BLANK_MESSAGE,
-};
-
-/// Appends the record of an event, which is well formed: its agent, cause, sends and commit (own rule). The error is
-/// want of memory, and `out` is then as before.
+/// Appends the record of an event, as `encode_room` does that of the event in a room.
 pub fn encode_event(event: &Event, out: &mut Vec<u8>) -> Result<(), AllocError>
-    requires { IsTrue (is_well_formed event.now) }
+    requires formed { IsTrue (is_well_formed event.now) }
+    requires version_one { IsTrue (fits_version_one event.now) }
     ensures ok { OnOk result (out.new.items ≡ out.old.items ++ event_bytes event.now) }
     ensures fits { OnOk result (EventFits event.now) }
     ensures err { OnErr result (out.new.items ≡ out.old.items) }
 {
     out.reserve(LONGEST_EVENT)?;
     put(out, &[event.agent]);
-    put_cause(out, &event.cause);
-    put_sends(out, &event.sends);
-    put_commit(out, &event.commit);
+    put_cause(out, CauseRef::of(&event.cause));
+    put_sends(out, SendsRef::of(&event.sends));
+    put_commit(out, event.commit.as_ref().map(CommitRef::of));
     Ok(())
 }
 
 /// Appends a cause. There is room for it.
-fn put_cause(out: &mut Vec<u8>, cause: &Cause)
-    requires { vec_len out.old + LONGEST_CAUSE ≤ vec_capacity out.old }
-    ensures items { out.new.items ≡ out.old.items ++ bytes_of (cause_cells cause.now) }
-    ensures range { CauseInRange cause.now }
+#[inline(always)]
+fn put_cause(out: &mut Vec<u8>, cause: CauseRef<'_>)
+    requires room { vec_len out.old + LONGEST_CAUSE ≤ vec_capacity out.old }
+    requires version_one { IsTrue (cause_fits_version_one (cause_of cause)) }
+    ensures items { out.new.items ≡ out.old.items ++ bytes_of (cause_cells (cause_of cause.entry)) }
+    ensures range { CauseInRange (cause_of cause.entry) }
     ensures len { vec_len out.new ≤ vec_len out.old + LONGEST_CAUSE }
     ensures capacity { vec_capacity out.old ≤ vec_capacity out.new }
 {
     match cause {
-        Cause::Op { stream, index, op } => {
-            let [i3, i2, i1, i0] = index.to_be_bytes();
-            put(out, &[0x01, *stream, i3, i2, i1, i0]);
-            put_op(out, op)
-        }
-        Cause::Take { host, message } => {
-            put(out, &[0x02, *host]);
-            put_message(out, message)
-        }
-        Cause::Act(act) => {
-            put(out, &[0x03]);
-            put_act(out, act)
-        }
+        CauseRef::Op { stream, index, op } => put_begun(out, stream, index, op),
+        CauseRef::Take { host, message } => put_taken(out, host, message),
+        CauseRef::Act(act) => put_done(out, act),
     }
 }
 
-/// Appends a sent message. There is room for it.
-fn put_out(out: &mut Vec<u8>, sent: &Out)
-    requires { vec_len out.old + LONGEST_OUT ≤ vec_capacity out.old }
-    ensures items { out.new.items ≡ out.old.items ++ bytes_of (out_cells sent.now) }
-    ensures range { MessageInRange sent.now.message }
-    ensures len { vec_len out.new ≤ vec_len out.old + LONGEST_OUT }
+/// Appends the operation that begins as a cause. There is room for it.
+#[inline(always)]
+fn put_begun(out: &mut Vec<u8>, stream: u8, index: u32, op: OpRef<'_>)
+    requires { vec_len out.old + LONGEST_CAUSE ≤ vec_capacity out.old }
+    ensures items { out.new.items ≡ out.old.items ++ bytes_of (cause_cells (Cause.Op stream index (op_of op.entry))) }
+    ensures range { CauseInRange (Cause.Op stream index (op_of op.entry)) }
+    ensures len { vec_len out.new ≤ vec_len out.old + LONGEST_CAUSE }
     ensures capacity { vec_capacity out.old ≤ vec_capacity out.new }
 {
-    put(out, &[sent.host]);
-    put_message(out, &sent.message);
+    let [i3, i2, i1, i0] = index.to_be_bytes();
+    put(out, &[0x01, stream, i3, i2, i1, i0]);
+    put_op(out, op);
+}
+
+/// Appends the message that is taken as a cause. There is room for it.
+#[inline(always)]
+fn put_taken(out: &mut Vec<u8>, host: u8, message: MessageRef<'_>)
+    requires room { vec_len out.old + LONGEST_CAUSE ≤ vec_capacity out.old }
+    requires version_one { IsTrue (message_fits_version_one (message_of message)) }
+    ensures items { out.new.items ≡ out.old.items ++ bytes_of (cause_cells (Cause.Take host (message_of message.entry))) }
+    ensures range { CauseInRange (Cause.Take host (message_of message.entry)) }
+    ensures len { vec_len out.new ≤ vec_len out.old + LONGEST_CAUSE }
+    ensures capacity { vec_capacity out.old ≤ vec_capacity out.new }
+{
+    put(out, &[0x02, host]);
+    put_message(out, message);
+}
+
+/// Appends the act that is done as a cause. There is room for it.
+#[inline(always)]
+fn put_done(out: &mut Vec<u8>, act: Act)
+    requires room { vec_len out.old + LONGEST_CAUSE ≤ vec_capacity out.old }
+    requires version_one { IsTrue (act_fits_version_one act) }
+    ensures items { out.new.items ≡ out.old.items ++ bytes_of (cause_cells (Cause.Act act)) }
+    ensures range { CauseInRange (Cause.Act act) }
+    ensures len { vec_len out.new ≤ vec_len out.old + LONGEST_CAUSE }
+    ensures capacity { vec_capacity out.old ≤ vec_capacity out.new }
+{
+    put(out, &[0x03]);
+    put_act(out, act);
 }
 
 /// Appends the messages that an event sends. There is room for them.
-fn put_sends(out: &mut Vec<u8>, sends: &Sends)
-    requires { vec_len out.old + LONGEST_SENDS ≤ vec_capacity out.old }
-    ensures items { out.new.items ≡ out.old.items ++ bytes_of (sends_cells sends.now) }
-    ensures range { AllByRecursion (λ o. MessageInRange o.message) (outs sends.now) }
+#[inline(always)]
+fn put_sends(out: &mut Vec<u8>, sends: SendsRef<'_>)
+    requires room { vec_len out.old + LONGEST_SENDS ≤ vec_capacity out.old }
+    requires version_one { IsTrue (list_all (λ o. message_fits_version_one o.message) (outs (sends_of sends))) }
+    ensures items { out.new.items ≡ out.old.items ++ bytes_of (sends_cells (sends_of sends.entry)) }
+    ensures range { AllByRecursion (λ o. MessageInRange o.message) (outs (sends_of sends.entry)) }
     ensures len { vec_len out.new ≤ vec_len out.old + LONGEST_SENDS }
     ensures capacity { vec_capacity out.old ≤ vec_capacity out.new }
 {
     match sends {
-        Sends::Nothing => put(out, &[0]),
-        Sends::One(first) => {
-            put(out, &[1]);
-            put_out(out, first)
+        SendsRef::Nothing => put(out, &[0]),
+        SendsRef::One(first) => {
+            put(out, &[1, first.host]);
+            put_message(out, first.message)
         }
-        Sends::Two(first, second) => {
-            put(out, &[2]);
-            put_out(out, first);
-            put_out(out, second)
+        SendsRef::Two(first, second) => {
+            put(out, &[2, first.host]);
+            put_message(out, first.message);
+            put(out, &[second.host]);
+            put_message(out, second.message)
         }
     }
 }
 
 /// Appends whether there is a commit, and the commit. There is room for it.
-fn put_commit(out: &mut Vec<u8>, commit: &Option<Commit>)
+#[inline(always)]
+fn put_commit(out: &mut Vec<u8>, commit: Option<CommitRef<'_>>)
     requires { vec_len out.old + LONGEST_COMMIT ≤ vec_capacity out.old }
-    ensures items { out.new.items ≡ out.old.items ++ bytes_of (commit_cells commit.now) }
-    ensures range { IfSome commit.now CommitInRange }
+    ensures items { out.new.items ≡ out.old.items ++ bytes_of (commit_cells (option_map commit_of commit.entry)) }
+    ensures range { IfSome (option_map commit_of commit.entry) CommitInRange }
     ensures len { vec_len out.new ≤ vec_len out.old + LONGEST_COMMIT }
     ensures capacity { vec_capacity out.old ≤ vec_capacity out.new }
 {
@@ -137,180 +170,169 @@ fn put_commit(out: &mut Vec<u8>, commit: &Option<Commit>)
         Some(commit) => {
             let [i3, i2, i1, i0] = commit.index.to_be_bytes();
             put(out, &[1, commit.stream, i3, i2, i1, i0]);
-            put_op(out, &commit.op);
-            put_payload(out, &commit.value)
+            put_op(out, commit.op);
+            put_payload(out, commit.value)
         }
     }
 }
 
-/// Reads the event record at the front of the bytes, and answers the event and how many bytes the record has. It is
-/// Short exactly where the bytes are a proper prefix of some event record, and else refused at the first byte that no
-/// event record can have after the bytes before it: by Kind where a kind byte stands there, else by the field that
-/// stands there (own rule).
+/// Reads the event record at the front of the bytes, and answers the event and how many bytes the record has, as
+/// `decode_room` does.
 pub fn decode_event(bytes: &[u8]) -> Result<(Event, usize), DecodeRefusal>
     ensures found { IfOk result (λ found. BeginsWith EventFits event_cells bytes.now found.0 found.1) }
     ensures refused { IfErr result (λ refusal. Refuses EventFits event_cells bytes.now refusal) }
 {
-    let mut event = BLANK;
-    let length = decode_event_into(bytes, &mut event)?;
-    Ok((event, length))
+    let mut room = EventRoom::new();
+    let length = decode_room(bytes, &mut room)?;
+    Ok((room.event(), length))
 }
 
-/// Reads the event record at the front of the bytes into `event`, and answers how many bytes the record has. It is
-/// refused as by `decode_event`, and what `event` is then isn't said.
-pub fn decode_event_into(bytes: &[u8], event: &mut Event) -> Result<usize, DecodeRefusal>
-    ensures found { IfOk result (λ length. BeginsWith EventFits event_cells bytes.now event.new length) }
+/// Reads the event record at the front of the bytes into a room, and answers how many bytes the record has. It is
+/// Short exactly where the bytes are a proper prefix of some event record, and else refused at the first byte that no
+/// event record can have after the bytes before it: by Kind where a kind byte stands there, else by the field that
+/// stands there (own rule). After a refusal some event is in the room, and which one isn't said.
+pub fn decode_room(bytes: &[u8], room: &mut EventRoom) -> Result<usize, DecodeRefusal>
+    ensures found { IfOk result (λ length. BeginsWith EventFits event_cells bytes.now room.new length) }
     ensures refused { IfErr result (λ refusal. Refuses EventFits event_cells bytes.now refusal) }
 {
-    match read_event(bytes, event) {
+    match read_event(bytes, room) {
         Ok(rest) => Ok(bytes.len() - rest.len()),
         Err(fault) => Err(refusal(bytes.len(), fault)),
     }
 }
 
-/// Reads an event into `event`.
-#[tactic(auto, unfolding(crate::specs::ReadingEvents::event_at))]
-fn read_event<'a>(bytes: &'a [u8], event: &mut Event) -> Result<&'a [u8], Fault>
-    ensures { Gives (λ rest. (event.new, rest.now)) result (event_at bytes.now) }
+/// Reads an event into a room.
+#[inline(always)]
+#[tactic(auto, unfolding(crate::specs::ReadingRooms::room_event_at))]
+fn read_event<'a>(bytes: &'a [u8], room: &mut EventRoom) -> Result<&'a [u8], Fault>
+    ensures { Gives (λ rest. (room.new, rest.now)) result (room_event_at bytes.now) }
 {
     let (agent, rest) = read_within(bytes, FieldName::Agent, 0, 16)?;
-    event.agent = agent;
-    let rest = read_cause(rest, &mut event.cause)?;
-    let rest = read_sends(rest, &mut event.sends)?;
-    let rest = read_commit(rest, &mut event.commit)?;
+    let rest = read_cause(agent, rest, room)?;
+    let rest = read_sends(rest, room)?;
+    let rest = read_commit(rest, room)?;
     Ok(rest)
 }
 
-/// Reads a cause into `cause`.
-#[tactic(auto, unfolding(crate::specs::ReadingEvents::cause_at))]
-fn read_cause<'a>(bytes: &'a [u8], cause: &mut Cause) -> Result<&'a [u8], Fault>
-    ensures { Gives (λ rest. (cause.new, rest.now)) result (cause_at bytes.now) }
+/// Begins the event of an agent in a room by the cause that is read.
+#[inline(always)]
+#[tactic(auto, unfolding(crate::specs::ReadingRooms::begun_at, crate::specs::ReadingRooms::begun_fields_at, crate::specs::ReadingEvents::cause_at, crate::specs::ReadingEvents::cause_fields_at))]
+fn read_cause<'a>(agent: u8, bytes: &'a [u8], room: &mut EventRoom) -> Result<&'a [u8], Fault>
+    ensures gives { Gives (λ rest. (room.new, rest.now)) result (begun_at agent bytes.now) }
+    ensures nothing { IfOk result (λ rest. room.new.sends ≡ Sends.Nothing) }
 {
     let (kind, rest) = read_cause_kind(bytes)?;
     match kind {
-        CauseKind::Op => read_begun(rest, cause),
-        CauseKind::Take => read_taken(rest, cause),
-        CauseKind::Act => read_done(rest, cause),
+        CauseKind::Op => read_begun(agent, rest, room),
+        CauseKind::Take => read_taken(agent, rest, room),
+        CauseKind::Act => read_done(agent, rest, room),
     }
 }
 
-/// Reads the fields of an operation that begins into `cause`.
-#[tactic(auto, unfolding(crate::specs::ReadingEvents::cause_fields_at))]
-fn read_begun<'a>(bytes: &'a [u8], cause: &mut Cause) -> Result<&'a [u8], Fault>
-    ensures { Gives (λ rest. (cause.new, rest.now)) result (cause_fields_at CauseKind.Op bytes.now) }
+/// Begins the event of an agent in a room by the operation that is read.
+#[inline(always)]
+#[tactic(auto, unfolding(crate::specs::ReadingRooms::begun_fields_at, crate::specs::ReadingEvents::cause_fields_at))]
+fn read_begun<'a>(agent: u8, bytes: &'a [u8], room: &mut EventRoom) -> Result<&'a [u8], Fault>
+    ensures gives { Gives (λ rest. (room.new, rest.now)) result (begun_fields_at agent CauseKind.Op bytes.now) }
+    ensures nothing { IfOk result (λ rest. room.new.sends ≡ Sends.Nothing) }
 {
     let (stream, rest) = read_within(bytes, FieldName::Stream, 0, 63)?;
     let (index, rest) = read_u32(rest)?;
-    let mut op = BLANK_OP;
-    let rest = read_op(rest, &mut op)?;
-    *cause = Cause::Op { stream, index, op };
+    let (op, rest) = read_op(rest)?;
+    room.begin_op(agent, stream, index, op);
     Ok(rest)
 }
 
-/// Reads the fields of a message that is taken into `cause`.
-#[tactic(auto, unfolding(crate::specs::ReadingEvents::cause_fields_at))]
-fn read_taken<'a>(bytes: &'a [u8], cause: &mut Cause) -> Result<&'a [u8], Fault>
-    ensures { Gives (λ rest. (cause.new, rest.now)) result (cause_fields_at CauseKind.Take bytes.now) }
+/// Begins the event of an agent in a room by the message that is read.
+#[inline(always)]
+#[tactic(auto, unfolding(crate::specs::ReadingRooms::begun_fields_at, crate::specs::ReadingEvents::cause_fields_at))]
+fn read_taken<'a>(agent: u8, bytes: &'a [u8], room: &mut EventRoom) -> Result<&'a [u8], Fault>
+    ensures gives { Gives (λ rest. (room.new, rest.now)) result (begun_fields_at agent CauseKind.Take bytes.now) }
+    ensures nothing { IfOk result (λ rest. room.new.sends ≡ Sends.Nothing) }
 {
     let (host, rest) = read_within(bytes, FieldName::Host, 0, 15)?;
-    let mut message = BLANK_MESSAGE;
-    let rest = read_message(rest, &mut message)?;
-    *cause = Cause::Take { host, message };
+    let (message, rest) = read_message(rest)?;
+    room.begin_take(agent, host, message);
     Ok(rest)
 }
 
-/// Reads an act that is done into `cause`.
-#[tactic(auto, unfolding(crate::specs::ReadingEvents::cause_fields_at))]
-fn read_done<'a>(bytes: &'a [u8], cause: &mut Cause) -> Result<&'a [u8], Fault>
-    ensures { Gives (λ rest. (cause.new, rest.now)) result (cause_fields_at CauseKind.Act bytes.now) }
+/// Begins the event of an agent in a room by the act that is read.
+#[inline(always)]
+#[tactic(auto, unfolding(crate::specs::ReadingRooms::begun_fields_at, crate::specs::ReadingEvents::cause_fields_at))]
+fn read_done<'a>(agent: u8, bytes: &'a [u8], room: &mut EventRoom) -> Result<&'a [u8], Fault>
+    ensures gives { Gives (λ rest. (room.new, rest.now)) result (begun_fields_at agent CauseKind.Act bytes.now) }
+    ensures nothing { IfOk result (λ rest. room.new.sends ≡ Sends.Nothing) }
 {
     let (act, rest) = read_act(bytes)?;
-    *cause = Cause::Act(act);
+    room.begin_act(agent, act);
     Ok(rest)
 }
 
-/// Reads a sent message into `sent`.
-#[tactic(auto, unfolding(crate::specs::ReadingEvents::out_at))]
-fn read_out<'a>(bytes: &'a [u8], sent: &mut Out) -> Result<&'a [u8], Fault>
-    ensures { Gives (λ rest. (sent.new, rest.now)) result (out_at bytes.now) }
+/// Sends one message more, which is read.
+#[tactic(auto, unfolding(crate::specs::ReadingRooms::sent_at, crate::specs::ReadingEvents::out_at))]
+fn read_out<'a>(bytes: &'a [u8], room: &mut EventRoom) -> Result<&'a [u8], Fault>
+    requires { IsTrue (may_send room.old.sends) }
+    ensures gives { Gives (λ rest. (room.new, rest.now)) result (sent_at room.old bytes.now) }
+    ensures one { room.old.sends ≡ Sends.Nothing → IfOk result (λ rest. IsTrue (may_send room.new.sends)) }
 {
     let (host, rest) = read_within(bytes, FieldName::Host, 0, 15)?;
-    sent.host = host;
-    let rest = read_message(rest, &mut sent.message)?;
+    let (message, rest) = read_message(rest)?;
+    room.send_message(host, message);
     Ok(rest)
 }
 
-/// Reads the messages that an event sends into `sends`.
-#[tactic(auto, unfolding(crate::specs::ReadingEvents::sends_at))]
-fn read_sends<'a>(bytes: &'a [u8], sends: &mut Sends) -> Result<&'a [u8], Fault>
-    ensures { Gives (λ rest. (sends.new, rest.now)) result (sends_at bytes.now) }
+/// Reads the messages that an event sends into a room whose event sends nothing.
+#[inline(always)]
+#[tactic(auto, unfolding(crate::specs::ReadingRooms::sends_sent_at))]
+fn read_sends<'a>(bytes: &'a [u8], room: &mut EventRoom) -> Result<&'a [u8], Fault>
+    requires { room.old.sends ≡ Sends.Nothing }
+    ensures { Gives (λ rest. (room.new, rest.now)) result (sends_sent_at room.old bytes.now) }
 {
     let (count, rest) = read_within(bytes, FieldName::SendCount, 0, 2)?;
-    read_outs(count, rest, sends)
+    read_outs(count, rest, room)
 }
 
-/// Reads so many sent messages, two at most, into `sends`.
-#[tactic(auto, unfolding(crate::specs::ReadingEvents::outs_at))]
-fn read_outs<'a>(count: u8, bytes: &'a [u8], sends: &mut Sends) -> Result<&'a [u8], Fault>
-    ensures { Gives (λ rest. (sends.new, rest.now)) result (outs_at count bytes.now) }
+/// Reads so many sent messages, two at most, into a room whose event sends nothing.
+#[inline(always)]
+#[tactic(auto, unfolding(crate::specs::ReadingRooms::all_sent_at))]
+fn read_outs<'a>(count: u8, bytes: &'a [u8], room: &mut EventRoom) -> Result<&'a [u8], Fault>
+    requires { room.old.sends ≡ Sends.Nothing }
+    ensures { Gives (λ rest. (room.new, rest.now)) result (all_sent_at count room.old bytes.now) }
 {
     match count {
-        0 => {
-            *sends = Sends::Nothing;
-            Ok(bytes)
-        }
-        1 => {
-            let mut first = BLANK_OUT;
-            let rest = read_out(bytes, &mut first)?;
-            *sends = Sends::One(first);
-            Ok(rest)
-        }
+        0 => Ok(bytes),
+        1 => read_out(bytes, room),
         _ => {
-            let mut first = BLANK_OUT;
-            let rest = read_out(bytes, &mut first)?;
-            let mut second = BLANK_OUT;
-            let rest = read_out(rest, &mut second)?;
-            *sends = Sends::Two(first, second);
-            Ok(rest)
+            let rest = read_out(bytes, room)?;
+            read_out(rest, room)
         }
     }
 }
 
-/// Reads whether there is a commit, and the commit, into `commit`.
-#[tactic(auto, unfolding(crate::specs::ReadingEvents::commit_at))]
-fn read_commit<'a>(bytes: &'a [u8], commit: &mut Option<Commit>) -> Result<&'a [u8], Fault>
-    ensures { Gives (λ rest. (commit.new, rest.now)) result (commit_at bytes.now) }
+/// Reads whether there is a commit, and the commit, into a room whose event has none yet.
+#[inline(always)]
+#[tactic(auto, unfolding(crate::specs::ReadingRooms::commit_set_at))]
+fn read_commit<'a>(bytes: &'a [u8], room: &mut EventRoom) -> Result<&'a [u8], Fault>
+    ensures { Gives (λ rest. (room.new, rest.now)) result (commit_set_at room.old bytes.now) }
 {
     let (flag, rest) = read_within(bytes, FieldName::CommitFlag, 0, 1)?;
-    read_flagged(flag, rest, commit)
+    read_flagged(flag, rest, room)
 }
 
-/// Reads the commit behind a flag of 1 into `commit`.
-#[tactic(auto, unfolding(crate::specs::ReadingEvents::flagged_at))]
-fn read_flagged<'a>(
-    flag: u8,
-    bytes: &'a [u8],
-    commit: &mut Option<Commit>,
-) -> Result<&'a [u8], Fault>
-    ensures { Gives (λ rest. (commit.new, rest.now)) result (flagged_at flag bytes.now) }
+/// Reads the commit behind a flag of 1 into a room whose event has none yet.
+#[inline(always)]
+#[tactic(auto, unfolding(crate::specs::ReadingRooms::flagged_set_at, crate::specs::ReadingEvents::flagged_at))]
+fn read_flagged<'a>(flag: u8, bytes: &'a [u8], room: &mut EventRoom) -> Result<&'a [u8], Fault>
+    ensures { Gives (λ rest. (room.new, rest.now)) result (flagged_set_at flag room.old bytes.now) }
 {
     match flag {
-        0 => {
-            *commit = None;
-            Ok(bytes)
-        }
+        0 => Ok(bytes),
         _ => {
             let (stream, rest) = read_within(bytes, FieldName::Stream, 0, 63)?;
             let (index, rest) = read_u32(rest)?;
-            let mut op = BLANK_OP;
-            let rest = read_op(rest, &mut op)?;
+            let (op, rest) = read_op(rest)?;
             let (value, rest) = read_payload(rest)?;
-            *commit = Some(Commit {
-                stream,
-                index,
-                op,
-                value: Bytes64(*value),
-            });
+            room.set_commit(stream, index, op, value);
             Ok(rest)
         }
     }

@@ -1,8 +1,9 @@
 // The header of a trace.
-ghost use Rattle.std.specs.Prelude.{◌≡◌, ◌≤◌, ◌++◌, OnOk, OnErr, IfOk, IfErr};
+ghost use Rattle.std.specs.Prelude.{◌≡◌, ◌≤◌, ◌++◌, IsTrue, OnOk, OnErr, IfOk, IfErr};
 ghost use Rattle.cxl_message.specs.Setup.{IsWithinLimits};
 ghost use Rattle.cxl_codec.specs.Grammar.{BeginsWith, Refuses};
 ghost use Rattle.cxl_codec.specs.Header.{header_cells};
+ghost use Rattle.cxl_codec.specs.VersionOne.{HeaderFits, setup_fits_version_one};
 ghost use Rattle.cxl_codec.specs.Traces.{header_bytes};
 ghost use Rattle.cxl_codec.specs.Reading.{Gives};
 ghost use Rattle.cxl_codec.specs.ReadingFiles.{magic_at, streams_at, header_at};
@@ -16,10 +17,11 @@ use cxl_message::Setup;
 use std::alloc::AllocError;
 
 /// Appends the header of a trace of this setup: its four fixed bytes, version 1, the numbers of the setup and the
-/// host of each stream (own rule). The error is want of memory, and `out` is then as before.
+/// host of each stream (own rule). The setup has at most 64 tags. The error is want of memory, and `out` is then as before.
 pub fn encode_header(setup: &Setup, out: &mut Vec<u8>) -> Result<(), AllocError>
+    requires version_one { IsTrue (setup_fits_version_one setup.now) }
     ensures ok { OnOk result (out.new.items ≡ out.old.items ++ header_bytes setup.now) }
-    ensures fits { IsWithinLimits setup.now }
+    ensures fits { HeaderFits setup.now }
     ensures err { OnErr result (out.new.items ≡ out.old.items) }
 {
     let streams = setup.streams();
@@ -38,7 +40,7 @@ pub fn encode_header(setup: &Setup, out: &mut Vec<u8>) -> Result<(), AllocError>
         entries_high,
         entries_low,
         (setup.ways() - 1) as u8,
-        setup.tags(),
+        setup.tags() as u8,
         setup.credits(),
         streams.len() as u8,
     ];
@@ -51,8 +53,8 @@ pub fn encode_header(setup: &Setup, out: &mut Vec<u8>) -> Result<(), AllocError>
 /// exactly where the bytes are a proper prefix of some header, and else refused at the first byte that no header can
 /// have after the bytes before it, by the field that stands there (own rule).
 pub fn decode_header(bytes: &[u8]) -> Result<(Setup, usize), DecodeRefusal>
-    ensures found { IfOk result (λ found. BeginsWith IsWithinLimits header_cells bytes.now found.0 found.1) }
-    ensures refused { IfErr result (λ refusal. Refuses IsWithinLimits header_cells bytes.now refusal) }
+    ensures found { IfOk result (λ found. BeginsWith HeaderFits header_cells bytes.now found.0 found.1) }
+    ensures refused { IfErr result (λ refusal. Refuses HeaderFits header_cells bytes.now refusal) }
 {
     match read_header(bytes) {
         Ok(found) => Ok((found.0, bytes.len() - found.1.len())),
@@ -78,6 +80,7 @@ fn read_header(bytes: &[u8]) -> Result<(Setup, &[u8]), Fault>
     let lines = u32::from(lines) + 1;
     let entries = 256 * u16::from(high) + u16::from(low) + 1;
     let ways = u16::from(ways) + 1;
+    let tags = u16::from(tags);
     let setup = setup_within(hosts, lines, entries, ways, tags, credits, streams);
     Ok((setup, rest))
 }
@@ -111,7 +114,7 @@ fn setup_within(
     lines: u32,
     entries: u16,
     ways: u16,
-    tags: u8,
+    tags: u16,
     credits: u8,
     streams: &[u8],
 ) -> Setup

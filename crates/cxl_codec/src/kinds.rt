@@ -4,6 +4,11 @@ ghost use Rattle.cxl_codec.specs.Reading.{Gives, kind_of};
 ghost use Rattle.cxl_codec.specs.Kinds.{cause_kind_code, cause_kinds, op_kind_code, op_kinds, act_kind_code, act_kinds, message_kind_code, message_kinds};
 
 use crate::faults::Fault;
+use cxl_message::codes::{
+    BI_CONFLICT, BI_CONFLICT_ACK, BI_RSP_E, BI_RSP_E_BLK, BI_RSP_I, BI_RSP_I_BLK, BI_RSP_S,
+    BI_RSP_S_BLK, BI_SNP_CUR, BI_SNP_CUR_BLK, BI_SNP_DATA, BI_SNP_DATA_BLK, BI_SNP_INV,
+    BI_SNP_INV_BLK, CMP, CMP_E, CMP_S, CREDIT, MEM_CLN_EVCT, MEM_DATA, MEM_INV, MEM_RD, MEM_WR,
+};
 use cxl_message::{NdrOp, ReqOp, RspOp, SnpOp};
 
 /// The kinds of cause.
@@ -118,29 +123,29 @@ pub fn message_kind(code: u8) -> Option<MessageKind>
     ensures { result ≡ find (λ k. message_kind_code k == code) message_kinds }
 {
     match code {
-        0x01 => Some(MessageKind::Req(ReqOp::MemRd)),
-        0x02 => Some(MessageKind::Req(ReqOp::MemInv)),
-        0x03 => Some(MessageKind::Req(ReqOp::MemClnEvct)),
-        0x11 => Some(MessageKind::MemWr),
-        0x12 => Some(MessageKind::BiConflict),
-        0x21 => Some(MessageKind::BiRsp(RspOp::I)),
-        0x22 => Some(MessageKind::BiRsp(RspOp::S)),
-        0x23 => Some(MessageKind::BiRsp(RspOp::E)),
-        0x24 => Some(MessageKind::BiRsp(RspOp::IBlk)),
-        0x25 => Some(MessageKind::BiRsp(RspOp::SBlk)),
-        0x26 => Some(MessageKind::BiRsp(RspOp::EBlk)),
-        0x31 => Some(MessageKind::Ndr(NdrOp::Cmp)),
-        0x32 => Some(MessageKind::Ndr(NdrOp::CmpS)),
-        0x33 => Some(MessageKind::Ndr(NdrOp::CmpE)),
-        0x34 => Some(MessageKind::Ndr(NdrOp::ConflictAck)),
-        0x41 => Some(MessageKind::MemData),
-        0x51 => Some(MessageKind::BiSnp(SnpOp::Cur)),
-        0x52 => Some(MessageKind::BiSnp(SnpOp::Dat)),
-        0x53 => Some(MessageKind::BiSnp(SnpOp::Inv)),
-        0x54 => Some(MessageKind::BiSnp(SnpOp::CurBlk)),
-        0x55 => Some(MessageKind::BiSnp(SnpOp::DatBlk)),
-        0x56 => Some(MessageKind::BiSnp(SnpOp::InvBlk)),
-        0x61 => Some(MessageKind::Credit),
+        MEM_RD => Some(MessageKind::Req(ReqOp::MemRd)),
+        MEM_INV => Some(MessageKind::Req(ReqOp::MemInv)),
+        MEM_CLN_EVCT => Some(MessageKind::Req(ReqOp::MemClnEvct)),
+        MEM_WR => Some(MessageKind::MemWr),
+        BI_CONFLICT => Some(MessageKind::BiConflict),
+        BI_RSP_I => Some(MessageKind::BiRsp(RspOp::I)),
+        BI_RSP_S => Some(MessageKind::BiRsp(RspOp::S)),
+        BI_RSP_E => Some(MessageKind::BiRsp(RspOp::E)),
+        BI_RSP_I_BLK => Some(MessageKind::BiRsp(RspOp::IBlk)),
+        BI_RSP_S_BLK => Some(MessageKind::BiRsp(RspOp::SBlk)),
+        BI_RSP_E_BLK => Some(MessageKind::BiRsp(RspOp::EBlk)),
+        CMP => Some(MessageKind::Ndr(NdrOp::Cmp)),
+        CMP_S => Some(MessageKind::Ndr(NdrOp::CmpS)),
+        CMP_E => Some(MessageKind::Ndr(NdrOp::CmpE)),
+        BI_CONFLICT_ACK => Some(MessageKind::Ndr(NdrOp::ConflictAck)),
+        MEM_DATA => Some(MessageKind::MemData),
+        BI_SNP_CUR => Some(MessageKind::BiSnp(SnpOp::Cur)),
+        BI_SNP_DATA => Some(MessageKind::BiSnp(SnpOp::Dat)),
+        BI_SNP_INV => Some(MessageKind::BiSnp(SnpOp::Inv)),
+        BI_SNP_CUR_BLK => Some(MessageKind::BiSnp(SnpOp::CurBlk)),
+        BI_SNP_DATA_BLK => Some(MessageKind::BiSnp(SnpOp::DatBlk)),
+        BI_SNP_INV_BLK => Some(MessageKind::BiSnp(SnpOp::InvBlk)),
+        CREDIT => Some(MessageKind::Credit),
         _ => None,
     }
 }

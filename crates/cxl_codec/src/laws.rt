@@ -1,6 +1,6 @@
 // Laws of the records, for every value and all bytes. The functions do nothing.
-ghost use Rattle.cxl_message.specs.Setup.{IsWithinLimits};
 ghost use Rattle.cxl_codec.specs.Header.{header_cells};
+ghost use Rattle.cxl_codec.specs.VersionOne.{HeaderFits};
 ghost use Rattle.cxl_codec.specs.Openings.{opening_cells, OpeningFits};
 ghost use Rattle.cxl_codec.specs.Events.{event_cells, EventFits};
 ghost use Rattle.cxl_codec.specs.EndRecord.{end_cells, EndFits};
@@ -10,7 +10,7 @@ ghost use Rattle.cxl_codec.specs.Grammar.{HasOneSpelling, HasOneAnswer, IsReadAg
 /// The bytes of a record determine its value, whatever follows them, so no record is a proper prefix of another one of
 /// its kind (own rule).
 pub fn one_spelling()
-    ensures headers { HasOneSpelling IsWithinLimits header_cells }
+    ensures headers { HasOneSpelling HeaderFits header_cells }
     ensures openings { HasOneSpelling OpeningFits opening_cells }
     ensures events { HasOneSpelling EventFits event_cells }
     ensures ends { HasOneSpelling EndFits end_cells }
@@ -19,7 +19,7 @@ pub fn one_spelling()
 /// Bytes have at most one answer: one value with its length, or one refusal with its place and field. So what a decoder
 /// answers comes exactly where the grammar says so (own rule).
 pub fn one_answer()
-    ensures headers { HasOneAnswer IsWithinLimits header_cells }
+    ensures headers { HasOneAnswer HeaderFits header_cells }
     ensures openings { HasOneAnswer OpeningFits opening_cells }
     ensures events { HasOneAnswer EventFits event_cells }
     ensures ends { HasOneAnswer EndFits end_cells }
@@ -27,7 +27,7 @@ pub fn one_answer()
 
 /// What was encoded is decoded again, whatever follows it (own rule).
 pub fn read_again()
-    ensures headers { IsReadAgain IsWithinLimits header_cells }
+    ensures headers { IsReadAgain HeaderFits header_cells }
     ensures openings { IsReadAgain OpeningFits opening_cells }
     ensures events { IsReadAgain EventFits event_cells }
     ensures ends { IsReadAgain EndFits end_cells }

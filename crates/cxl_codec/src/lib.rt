@@ -1,11 +1,10 @@
-// The records of trace files: their bytes, both ways.
-//
-// A trace is a header, the openings of lines, the events and an end record. Numbers are unsigned, the highest byte
-// first. Every byte here is this project's own and no statement about the CXL standard.
+//! The records of trace files: their bytes, both ways.
+//!
+//! A trace is a header, the openings of lines, the events and an end record. Numbers are unsigned, the highest byte
+//! first. Every byte here is this project's own and no statement about the CXL standard.
 #![tactic(auto)]
 
 mod acts;
-mod codes;
 mod ends;
 mod events;
 mod faults;
@@ -19,16 +18,18 @@ mod operations;
 mod reading;
 mod refusals;
 mod scans;
+mod version_one;
 mod writing;
 
 pub use ends::{decode_end, encode_end};
-pub use events::{decode_event, decode_event_into, encode_event};
+pub use events::{decode_event, decode_room, encode_event, encode_room};
 pub use fields::FieldName;
 pub use headers::{decode_header, encode_header};
 pub use laws::{one_answer, one_spelling, one_trace, read_again};
 pub use openings::{decode_opening, encode_opening, opening_cut_below};
 pub use refusals::DecodeRefusal;
 pub use scans::EventScan;
+pub use version_one::{fits_version_one, setup_fits_version_one};
 
 #[cfg(test)]
 mod tests;

@@ -28,7 +28,7 @@ pub fn encode_opening(line: Line, bytes: &Bytes64, out: &mut Vec<u8>) -> Result<
     out.reserve(67)?;
     let [high, low] = (line.0 as u16).to_be_bytes();
     put(out, &[0xf0, high, low]);
-    put_payload(out, bytes);
+    put_payload(out, &bytes.0);
     Ok(())
 }
 

@@ -1,6 +1,6 @@
 // The fields of records, read at the front of some bytes. Each reader gives the value and the bytes after it, or the
 // first fault.
-ghost use Rattle.std.specs.Prelude.{◌≡◌, ◌≤◌, ◌==◌, true, false, find, IfOk};
+ghost use Rattle.std.specs.Prelude.{◌≡◌, ◌↔◌, ◌≤◌, ◌==◌, true, false, find, replicate, IfOk, IsTrue};
 ghost use Rattle.std.specs.Int.{w16, w32, w64};
 ghost use Rattle.cxl_message.specs.Codes.{meta_code, snoop_type_code, channel_code, span_len};
 ghost use Rattle.cxl_message.specs.Formed.{is_block_snoop};
@@ -88,13 +88,13 @@ pub fn read_u64(bytes: &[u8]) -> Result<(u64, &[u8]), Fault>
     Ok((number, rest))
 }
 
-/// A Tag.
+/// A Tag, which has 16 bits in version 1.
 #[inline(always)]
 pub fn read_tag(bytes: &[u8]) -> Result<(Tag, &[u8]), Fault>
     ensures { Gives (λ x. (x.0.0, x.1.now)) result (number_at w16 bytes.now) }
 {
     let (number, rest) = read_u16(bytes)?;
-    Ok((Tag(number), rest))
+    Ok((Tag(u32::from(number)), rest))
 }
 
 /// A BITag.
@@ -244,4 +244,26 @@ pub fn read_run(
         }
     }
     Ok(bytes.split_at(count))
+}
+
+/// The 64 bytes of a BIConflict's payload, all of them zero. They are compared at once, and one by one only to find the
+/// first that isn't zero.
+#[inline(always)]
+pub fn read_zeros(bytes: &[u8]) -> Result<(&[u8], &[u8]), Fault>
+    ensures { Gives (λ x. (x.0.now, x.1.now)) result (run_at FieldName.Payload 0 64 bytes.now) }
+{
+    if let Ok((front, rest)) = read_payload(bytes)
+        && all_zero(front)
+    {
+        return Ok((front, rest));
+    }
+    read_run(bytes, FieldName::Payload, 0, 64)
+}
+
+/// Whether 64 bytes are all zero.
+#[inline(always)]
+fn all_zero(bytes: &[u8; 64]) -> bool
+    ensures { IsTrue result ↔ (bytes.now ≡ replicate 64 0) }
+{
+    *bytes == [0; 64]
 }

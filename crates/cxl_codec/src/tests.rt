@@ -6,7 +6,7 @@ mod places;
 mod scanning;
 
 use super::*;
-use cxl_message::Setup;
+use cxl_message::{Act, Cause, Event, Line, Message, NdrOp, Out, Sends, Setup, Tag};
 use std::alloc::{AllocError, Global};
 use std::test::Fail;
 
@@ -64,5 +64,37 @@ fn names(rt: HostRuntime) -> Result<(), Fail> {
         "short"
     );
     assert_eq!(rt; FieldName::SnpType.name(), "SnpType");
+    Ok(())
+}
+
+#[test]
+fn version_one_has_room_for_two_bytes_of_tag(rt: HostRuntime) -> Result<(), Fail> {
+    for (tag, fits) in [(0, true), (65535, true), (65536, false), (65601, false)] {
+        let tag = Tag(tag);
+        let served = Event {
+            agent: 16,
+            cause: Cause::Act(Act::Serve { host: 0, tag }),
+            sends: Sends::Nothing,
+            commit: None,
+        };
+        let completed = Out {
+            host: 0,
+            message: Message::Ndr {
+                op: NdrOp::Cmp,
+                tag,
+            },
+        };
+        let sent = Event {
+            cause: Cause::Act(Act::Finish(Line(0))),
+            sends: Sends::One(completed),
+            ..served
+        };
+        assert_eq!(rt; fits_version_one(&served), fits, "at {tag:?}");
+        assert_eq!(rt; fits_version_one(&sent), fits, "at {tag:?}");
+    }
+    let most = Setup::new(1, 1, 1, 1, 64, 2, &[])?;
+    let more = Setup::new(1, 1, 1, 1, 65, 2, &[])?;
+    assert!(rt; setup_fits_version_one(&most));
+    assert!(rt; !setup_fits_version_one(&more));
     Ok(())
 }

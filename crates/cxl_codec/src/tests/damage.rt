@@ -2,6 +2,7 @@
 // put there in turn, and where every byte is allowed, each of them. `places` is the table of what a place allows.
 use super::places::{Place, expected, is_allowed};
 use crate::*;
+use event_room::EventRoom;
 use std::alloc::{AllocError, Global};
 use std::process::Abort;
 use std::test::Fail;
@@ -54,8 +55,18 @@ fn length_of(record: Record, bytes: &[u8]) -> Result<usize, DecodeRefusal> {
     match record {
         Record::Header => Ok(decode_header(bytes)?.1),
         Record::Opening => Ok(decode_opening(bytes)?.2),
-        Record::Event => Ok(decode_event(bytes)?.1),
+        Record::Event => both_forms(bytes),
         Record::End => Ok(decode_end(bytes)?.1),
+    }
+}
+
+// How many bytes an event record has, by the decoder into a room and the one by value: more than there are where they differ.
+fn both_forms(bytes: &[u8]) -> Result<usize, DecodeRefusal> {
+    let mut room = EventRoom::new();
+    match (decode_room(bytes, &mut room), decode_event(bytes)) {
+        (Ok(length), Ok((event, same))) if length == same && room.event() == event => Ok(length),
+        (Err(refusal), Err(same)) if refusal == same => Err(refusal),
+        _ => Ok(usize::MAX),
     }
 }
 

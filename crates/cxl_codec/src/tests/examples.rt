@@ -5,6 +5,7 @@ use cxl_message::{
     Act, Bytes64, Cause, Commit, Event, Line, Message, Meta, NdrOp, Op, Out, ReqOp, Sends, Setup,
     SnpType, Tag, well_formed,
 };
+use event_room::EventRoom;
 use std::alloc::{AllocError, Global};
 use std::test::Fail;
 
@@ -110,14 +111,22 @@ fn one_load_bytes(alloc: Global) -> Result<Vec<u8>, AllocError> {
 fn one_load_is_written(rt: HostRuntime) -> Result<(), Fail> {
     let setup = Setup::new(1, 4, 4, 4, 2, 2, &[0])?;
     let mut out = Vec::new(rt.alloc());
+    let mut again = Vec::new(rt.alloc());
+    let mut room = EventRoom::new();
     encode_header(&setup, &mut out)?;
+    encode_header(&setup, &mut again)?;
     for event in &one_load() {
         assert!(rt; well_formed(event));
+        assert!(rt; fits_version_one(event));
         encode_event(event, &mut out)?;
+        room.set(event);
+        encode_room(&room, &mut again)?;
     }
     encode_end(6, &mut out)?;
+    encode_end(6, &mut again)?;
     assert_eq!(rt; out.len(), 305);
     assert!(rt; out.as_slice() == one_load_bytes(rt.alloc())?.as_slice());
+    assert!(rt; out.as_slice() == again.as_slice());
     Ok(())
 }
 

@@ -1,6 +1,6 @@
 -- What is read is what the grammar says.
 use Rattle.std.proofs.Common.{arith}
-use Rattle.cxl_message.specs.Setup.{IsWithinLimits}
+use Rattle.cxl_codec.specs.VersionOne.{HeaderFits}
 use Rattle.cxl_codec.specs.Header.{header_cells}
 use Rattle.cxl_codec.specs.ReadingFiles.{header_at}
 use Rattle.cxl_codec.proofs.Meanings.{bytes_from, found, refused, rest_shorter}
@@ -9,16 +9,16 @@ use Rattle.cxl_codec.proofs.headers.decode_header.Goals as goal
 
 pub overflow_sub-result : goal.overflow_sub-result
 overflow_sub-result c =
-    rest_shorter IsWithinLimits header_cells header_at header_meets c.args.bytes.now (bytes_from c.args.bytes.now (λ i. omega (arith, c.type_inv.bytes i))) _ _ c.in-Ok.ensures
+    rest_shorter HeaderFits header_cells header_at header_meets c.args.bytes.now (bytes_from c.args.bytes.now (λ i. omega (arith, c.type_inv.bytes i))) _ _ c.in-Ok.ensures
 
 pub refusal-requires : goal.refusal-requires
 refusal-requires c =
-    (refused IsWithinLimits header_cells header_at header_meets c.args.bytes.now (bytes_from c.args.bytes.now (λ i. omega (arith, c.type_inv.bytes i))) c.in-Err.fault c.in-Err.ensures).1
+    (refused HeaderFits header_cells header_at header_meets c.args.bytes.now (bytes_from c.args.bytes.now (λ i. omega (arith, c.type_inv.bytes i))) c.in-Err.fault c.in-Err.ensures).1
 
 pub returns-in-Ok-clause-found : goal.returns-in-Ok-clause-found
 returns-in-Ok-clause-found c =
-    found IsWithinLimits header_cells header_at header_meets c.args.bytes.now (bytes_from c.args.bytes.now (λ i. omega (arith, c.type_inv.bytes i))) _ _ c.in-Ok.ensures
+    found HeaderFits header_cells header_at header_meets c.args.bytes.now (bytes_from c.args.bytes.now (λ i. omega (arith, c.type_inv.bytes i))) _ _ c.in-Ok.ensures
 
 pub returns-in-Err-clause-refused : goal.returns-in-Err-clause-refused
 returns-in-Err-clause-refused c =
-    rw c.refusal.ensures (refused IsWithinLimits header_cells header_at header_meets c.args.bytes.now (bytes_from c.args.bytes.now (λ i. omega (arith, c.type_inv.bytes i))) c.in-Err.fault c.in-Err.ensures).0
+    rw c.refusal.ensures (refused HeaderFits header_cells header_at header_meets c.args.bytes.now (bytes_from c.args.bytes.now (λ i. omega (arith, c.type_inv.bytes i))) c.in-Err.fault c.in-Err.ensures).0

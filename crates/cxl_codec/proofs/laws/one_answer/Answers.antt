@@ -1,4 +1,4 @@
-use Rattle.cxl_message.specs.Setup.{IsWithinLimits}
+use Rattle.cxl_codec.specs.VersionOne.{HeaderFits}
 use Rattle.cxl_codec.specs.Header.{header_cells}
 use Rattle.cxl_codec.specs.Openings.{opening_cells, OpeningFits}
 use Rattle.cxl_codec.specs.Events.{event_cells, EventFits}
@@ -11,7 +11,7 @@ use Rattle.cxl_codec.proofs.FileReads.{header_meets, opening_meets, end_meets}
 use Rattle.cxl_codec.proofs.laws.one_answer.Goals as goal
 
 pub returns-clause-headers : goal.returns-clause-headers
-returns-clause-headers c = one_answer IsWithinLimits header_cells header_at header_meets
+returns-clause-headers c = one_answer HeaderFits header_cells header_at header_meets
 
 pub returns-clause-openings : goal.returns-clause-openings
 returns-clause-openings c = one_answer OpeningFits opening_cells opening_at opening_meets

@@ -6,5 +6,5 @@ use Rattle.cxl_codec.proofs.writing.put_payload.Goals as goal
 pub returns-clause-range : goal.returns-clause-range
 returns-clause-range c = record {
   count = omega arith;
-  each = IsBytes-rest c.args.out.now.items c.args.bytes.now.0 (subst IsBytes c.put.ensures.items c.type_inv.out);
+  each = IsBytes-rest c.args.out.now.items c.args.bytes.now (subst IsBytes c.put.ensures.items c.type_inv.out);
 }

@@ -1,0 +1,4 @@
+pub mod Heads
+pub mod Parts
+pub mod Room
+pub mod Made
