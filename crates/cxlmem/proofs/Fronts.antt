@@ -6,7 +6,7 @@ use Rattle.cxl_message.specs.Script.{ScriptValue}
 use Rattle.cxl_message.specs.Setup.{Configuration}
 use Rattle.cxl_message.specs.declared.identifiers.Bytes64.{Bytes64}
 use Rattle.cxl_message.specs.declared.identifiers.Line.{Line}
-use Rattle.trace_stream.specs.Writing.{PutsFront}
+use Rattle.trace_stream.specs.Buffers.{PutsFront}
 use Rattle.cxlmem.specs.Outcomes.{WritesFront}
 use lib.Seq.{take-append_seam}
 

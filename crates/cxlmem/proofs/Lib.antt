@@ -5,5 +5,6 @@ pub mod Loops
 pub mod Openings
 pub mod PlainTests
 pub mod Scans
+pub mod ShortTags
 pub mod Statuses
 pub mod Turns

@@ -14,6 +14,7 @@ use Rattle.cxl_message.specs.declared.states.RuleNo.{RuleNo}
 use Rattle.cxl_message.specs.Formed.{well_formed}
 use Rattle.cxl_message.specs.Script.{ScriptValue}
 use Rattle.cxl_message.specs.Setup.{Configuration}
+use Rattle.cxl_codec.specs.VersionOne.{fits_version_one}
 use Rattle.coherence_model.proofs.Allowed.{allowed_own, allowed_takeable, own_half_parts}
 use Rattle.coherence_model.specs.Choices.{choices, is_done}
 use Rattle.coherence_model.specs.Driven.{driven_on, driven_trace, event_bound, operation_count, pick_from}
@@ -22,7 +23,7 @@ use Rattle.coherence_model.specs.Rules.{k0_takeable, p0_profile, s0_stream_order
 use Rattle.coherence_model.specs.Runs.{first_failure, is_allowed}
 use Rattle.coherence_model.specs.Streams.{begins_for, begun_count}
 use Rattle.coherence_model.specs.Traces.{events_of}
-use Rattle.driven_laws.proofs.Ending.{has_choice}
+use Rattle.driven_laws.proofs.Ending.{has_choice, reached_is_short}
 use Rattle.driven_laws.proofs.OnTheWay.{way_begins, way_ends, way_goes_on}
 use Rattle.driven_laws.proofs.OwnStreams.{in_order_parts}
 use Rattle.driven_laws.proofs.PlainRuns.{plain_runs_are_built}
@@ -33,6 +34,7 @@ use Rattle.machine.specs.Built.{IsBuiltRun, first_broken_as_built, is_built, is_
 use Rattle.machine.specs.HostChanges.{one_more}
 use Rattle.machine.specs.MachineRecord.{MachineRecord}
 use Rattle.machine.specs.Stands.{StandsFor}
+use Rattle.cxlmem.proofs.ShortTags.{tags_are_short}
 use Rattle.cxlmem.specs.Driver.{IsAt, IsCounted, counts_after, one_counted}
 
 -- ---- what a built run breaks
@@ -70,6 +72,13 @@ formed setup opening t e run =
     let next = goes_on setup opening e t run in
     let own = own_half_parts setup opening e (events_of e.agent t) (allowed_own setup opening t e next.allowed) in
     (and_parts (well_formed e) _ (and_parts _ _ (and_parts _ _ (and_parts _ _ own.0).0).0).0).0
+
+-- and version 1 has room for its tags, where the setup has at most 64
+pub short_tags : (setup : Configuration) (opening : List (Line × Bytes64)) (t : List Event) (e : Event) → IsBuiltRun setup opening (e ∷ t) → setup.tags ≤ 64 → IsTrue (fits_version_one e)
+short_tags setup opening t e run few =
+    let next = goes_on setup opening e t run in
+    let own = own_half_parts setup opening e (events_of e.agent t) (allowed_own setup opening t e next.allowed) in
+    tags_are_short setup few e own.0
 
 -- ---- the counts
 
@@ -145,6 +154,7 @@ pub record IsTurned (script : ScriptValue) (counts : List ℕ) (t : List Event) 
   pub sized : length (counts_after e.cause counts) ≡ 64
   pub unbroken : first_broken_as_built script.setup script.opening t e ≡ None
   pub formed : IsTrue (well_formed e)
+  pub version_one : script.setup.tags ≤ 64 → IsTrue (fits_version_one e)
 
 pub turns :
     (script : ScriptValue) → IsPlain script → (machine : MachineRecord) (counts : List ℕ) (t : List Event) (e : Event) → IsAt script machine counts t → is_done script t ≡ false
@@ -162,19 +172,20 @@ turns script plain machine counts t e at more first =
       sized = sized_after e.cause counts ∙ at.sized;
       unbroken = nothing_broken script.setup script.opening t e run;
       formed = formed script.setup script.opening t e run;
+      version_one = λ few. short_tags script.setup script.opening t e run few;
     }
 
 -- what is done is the driven trace
 pub done_ends : (script : ScriptValue) (t : List Event) → IsOnTheWay script [] t → is_done script t ≡ true → t ≡ driven_trace script
 done_ends script t way done = way_ends script [] t way done
 
--- so is what has as many events as any driven trace may have
-pub count_ends : (script : ScriptValue) → IsPlain script → (t : List Event) → IsOnTheWay script [] t → length t ≡ 6881280 → t ≡ driven_trace script
-count_ends script plain t way many =
+-- no trace on the way has more events than any driven trace may have
+pub too_many : (script : ScriptValue) → IsPlain script → (t : List Event) → IsOnTheWay script [] t → length t ≡ 6881281 → ⊥
+too_many script plain t way many =
     let bound : event_bound script ≡ 105 * operation_count script = ap (λ (h : ℕ). (108 * h - 3) * operation_count script) plain.hosts in
     let few = plain.drivable.count in
-    let none : event_bound script - length t ≡ 0 = omega (arith, bound, few, many) in
-    ap (λ (n : ℕ). driven_on n script [] t) (sym none) ∙ way.comes
+    let short = reached_is_short script plain.drivable t way.reached in
+    omega (arith, bound, few, short, many)
 
 -- ---- the first choice
 

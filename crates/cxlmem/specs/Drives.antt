@@ -1,19 +1,19 @@
 -- What `drive` reads and writes. Every rule here is an own rule.
-use Rattle.std.specs.Prelude.{Bool, IsTrue, List, Option, false, length, nat_le, not, reverse, ℕ, ◌&&◌, ◌==◌, ◌≡◌, ◌≤◌, ◌<◌}
+use Rattle.std.specs.Prelude.{Bool, IfSome, IsTrue, List, Option, false, length, nat_le, not, reverse, ℕ, ◌&&◌, ◌==◌, ◌≡◌, ◌≤◌, ◌<◌}
 use Rattle.std.specs.List.{list_all}
-use Rattle.std.specs.Io.KnownBytes.{Appends}
 use Rattle.cxl_message.specs.declared.events.Op.{Op}
 use Rattle.cxl_message.specs.Script.{ScriptValue}
-use Rattle.coherence_model.specs.Driven.{driven_trace}
+use Rattle.coherence_model.specs.Driven.{driven_trace, event_bound}
 use Rattle.coherent_runs.specs.Coherent.{IsCoherent}
 use Rattle.cxl_codec.specs.Traces.{trace_bytes}
 use Rattle.driven_laws.specs.Commits.{CommitsEach}
-use Rattle.machine.specs.Built.{is_whole}
+use Rattle.cxl_message.specs.Events.{is_whole}
 use Rattle.script_text.specs.declared.refusals.ScriptReason.{ScriptReason}
 use Rattle.script_text.specs.Failures.{FailsAt}
 use Rattle.script_text.specs.Script.{IsScript}
 use Rattle.script_text.specs.Spelling.{script_bytes}
 use Rattle.cxlmem.specs.Outcomes.{WritesFront, WritesText}
+use Rattle.cxlmem.specs.Outputs.{WritesDriven}
 use Rattle.cxlmem.specs.Texts.{bad_script_text}
 
 -- the most bytes that a script has
@@ -54,12 +54,13 @@ IsUnbuiltScript input = (script : ScriptValue) × IsUndriven input script
 abbrev pub driven_bytes : ScriptValue → List ℕ
 driven_bytes script = trace_bytes script.setup script.opening (reverse (driven_trace script))
 
--- the input is a script that is driven; its driven trace went to the sink, and nothing else; in it each operation of the script is committed once, each stream's in its order, and nothing else is; it is a run whose commits form a legal history, in which a writable copy is always the only copy, and an allowed next step stands wherever something is pending
+-- the input is a script that is driven; its driven trace went to the sink, and nothing else, and a reader reads it as such; in it each operation of the script is committed once, each stream's in its order, and nothing else is; it has at most 105 events for each operation, with one host; it is a run whose commits form a legal history, in which a writable copy is always the only copy, and an allowed next step stands wherever something is pending
 pub record Drives (input : List ℕ) (old new : Option (List ℕ)) : Type 0 where
   pub script : ScriptValue
   pub driven : IsDriven input script
-  pub trace : Appends old new (driven_bytes script)
+  pub trace : WritesDriven old new script
   pub commits : CommitsEach script (driven_trace script)
+  pub short : length (driven_trace script) ≤ event_bound script
   pub coherent : IsCoherent script.setup script.opening (driven_trace script)
 
 -- the input is a script that is driven, and the first bytes of its trace went to the sink, and nothing else
@@ -72,10 +73,14 @@ pub record DrivesFront (input : List ℕ) (old new : Option (List ℕ)) : Type 0
 abbrev pub IsTooLong : List ℕ → Type 0
 IsTooLong input = script_limit < length input
 
--- the input is within the limit and no script, and the line that fails first and its reason went to the sink as a text
-pub record RefusesScript (input : List ℕ) (old new : Option (List ℕ)) (before now : ℕ) : Type 0 where
+-- the input is within the limit and no script: this line is the first that fails, for this reason
+pub record IsBadScript (input : List ℕ) (line : ℕ) (reason : ScriptReason) : Type 0 where
   pub within : length input ≤ script_limit
+  pub fails : FailsAt input line reason
+
+-- a line and a reason went to the sink as a text; where the source tells its input, that line is the first that fails, for that reason
+pub record RefusesScript (input : Option (List ℕ)) (old new : Option (List ℕ)) (before now : ℕ) : Type 0 where
   pub line : ℕ
   pub reason : ScriptReason
-  pub fails : FailsAt input line reason
   pub text : WritesText old new before now (bad_script_text line reason)
+  pub fails : IfSome input (λ bytes. IsBadScript bytes line reason)

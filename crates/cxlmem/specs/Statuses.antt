@@ -1,5 +1,5 @@
 -- The numbers of statuses, and which of them come today. Every rule here is an own rule.
-use Rattle.std.specs.Prelude.{ℕ}
+use Rattle.std.specs.Prelude.{ℕ, ◌+◌, ◌<◌, ◌≡◌, ◌≤◌}
 use Rattle.cxlmem.specs.declared.ends.Status.{Status}
 
 -- the exit status of the process
@@ -29,3 +29,10 @@ IsAnswer Status.Memory = Unit {0}
 IsAnswer Status.JournalFull = ⊥
 IsAnswer Status.TooLong = Unit {0}
 IsAnswer Status.NotBuilt = Unit {0}
+
+-- what a status says of the sink's count of faults: it rose where a write fault is answered, and is as it was where the command is done or wants memory; a refusal whose text meets a fault keeps its status
+pub record TellsWriteFault (before now : ℕ) (status : Status) : Type 0 where
+  pub once : now ≤ before + 1
+  pub rose : status ≡ Status.WriteFault → before < now
+  pub done : status ≡ Status.Ok → now ≡ before
+  pub memory : status ≡ Status.Memory → now ≡ before

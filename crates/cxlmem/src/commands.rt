@@ -1,7 +1,8 @@
 // The top call: the program's commands.
 ghost use Rattle.std.specs.Prelude.{◌≡◌, ◌^◌, ◌<◌, ◌⊎◌, [], Some, IfSome};
 ghost use Rattle.std.specs.Io.KnownBytes.{Appends};
-ghost use Rattle.cxlmem.specs.Statuses.{IsAnswer};
+ghost use Rattle.outside_io.specs.Counts.{TellsFaults};
+ghost use Rattle.cxlmem.specs.Statuses.{IsAnswer, TellsWriteFault};
 ghost use Rattle.cxlmem.specs.Texts.{not_built_text, read_fault_text, too_long_text, usage_text};
 ghost use Rattle.cxlmem.specs.CommandLine.{IsDrive, IsForm, IsUnbuilt};
 ghost use Rattle.cxlmem.specs.Outcomes.{WritesText};
@@ -20,8 +21,12 @@ use std::alloc::Global;
 /// lines at least, no store of a whole line and no pick. All else that is a form of the command line answers `NotBuilt`.
 ///
 /// The causes of `Usage`, `BadScript`, `TooLong` and `NotBuilt` and those of `Ok` exclude one another: an input that fails at
-/// a line is no script's spelling, and spells one script at most. So each of these comes exactly where its cause holds, but
-/// for a read fault, a write fault and want of memory.
+/// a line is spelled by no script (`failures_are_alone` of `script_text`), and any other by one script at most
+/// (`texts_spell_one_script`). So each of these comes exactly where its cause holds, but for a read fault, a write fault and
+/// want of memory.
+///
+/// A read fault comes exactly where the source counted one. A write fault comes where the sink counted one, and at `Ok` and
+/// `Memory` it counted none; a refusal whose text meets a fault keeps its status.
 pub fn command<S: Source, K: Sink>(
     alloc: Global,
     words: &[String],
@@ -36,19 +41,19 @@ pub fn command<S: Source, K: Sink>(
     ensures read_whole { result ≡ Status.Ok → IfSome (S.left source.old) (λ input. S.left source.new ≡ Some []) }
     ensures driven { result ≡ Status.Ok → IfSome (S.left source.old) (λ input. Drives input (K.gone sink.old) (K.gone sink.new)) }
 
-    // Each other status has its cause.
-    ensures read_fault { result ≡ Status.ReadFault → S.faults source.old < S.faults source.new }
-    ensures write_fault { result ≡ Status.WriteFault → K.faults sink.old < K.faults sink.new }
+    // Each other status has its cause, and no fault is passed over.
+    ensures read_fault { TellsFaults (S.faults source.old) (S.faults source.new) (result ≡ Status.ReadFault) }
+    ensures write_fault { TellsWriteFault (K.faults sink.old) (K.faults sink.new) result }
     ensures usage { result ≡ Status.Usage → ¬ IsForm words.now }
     ensures other_words { ¬ IsForm words.now → result ≡ Status.Usage }
     ensures unbuilt_words { IsUnbuilt words.now → result ≡ Status.NotBuilt }
-    ensures bad_script { result ≡ Status.BadScript → IfSome (S.left source.old) (λ input. RefusesScript input (K.gone sink.old) (K.gone sink.new) (K.faults sink.old) (K.faults sink.new)) }
+    ensures bad_script { result ≡ Status.BadScript → RefusesScript (S.left source.old) (K.gone sink.old) (K.gone sink.new) (K.faults sink.old) (K.faults sink.new) }
     ensures too_long { result ≡ Status.TooLong → IfSome (S.left source.old) IsTooLong }
     ensures not_built { result ≡ Status.NotBuilt → IsUnbuilt words.now ⊎ IsDrive words.now × IfSome (S.left source.old) IsUnbuiltScript }
     ensures nothing_else { IsAnswer result }
 
     // What the source has left and the sink holds after a refusal.
-    ensures unread { ¬ IsDrive words.now → S.left source.new ≡ S.left source.old }
+    ensures unread { ¬ IsDrive words.now → source.new ≡ source.old }
     ensures read_fault_text { result ≡ Status.ReadFault → WritesText (K.gone sink.old) (K.gone sink.new) (K.faults sink.old) (K.faults sink.new) read_fault_text }
     ensures usage_text { result ≡ Status.Usage → WritesText (K.gone sink.old) (K.gone sink.new) (K.faults sink.old) (K.faults sink.new) usage_text }
     ensures too_long_text { result ≡ Status.TooLong → WritesText (K.gone sink.old) (K.gone sink.new) (K.faults sink.old) (K.faults sink.new) too_long_text }

@@ -1,8 +1,9 @@
 // The driving of a plain script: what is chosen next, and the machine that takes it.
-ghost use Rattle.std.specs.Prelude.{◌≡◌, ◌<◌, ◌∷◌, [], IfSome, IsTrue, List, None, length, option_to_list, slice_get, ℕ};
+ghost use Rattle.std.specs.Prelude.{◌≡◌, ◌<◌, ◌≤◌, ◌∷◌, [], IfSome, IsTrue, List, None, length, option_to_list, slice_get, ℕ};
 ghost use Rattle.std.specs.List.{flat_map};
 ghost use Rattle.cxl_message.specs.declared.events.Event.{Event as AnEvent};
 ghost use Rattle.cxl_message.specs.Formed.{well_formed};
+ghost use Rattle.cxl_codec.specs.VersionOne.{fits_version_one};
 ghost use Rattle.coherence_model.specs.Choices.{Stream, choices, is_done as all_done, streams_of};
 ghost use Rattle.coherence_model.specs.Driven.{driven_trace};
 ghost use Rattle.coherence_model.specs.Streams.{begun_count};
@@ -21,21 +22,25 @@ use script_text::Script;
 pub fn turn(script: &Script, machine: &mut Machine, counts: &mut [u32; 64]) -> Option<Event>
     requires plain { IsPlain script.now }
     requires no_picks { script.now.picks ≡ [] }
+    requires tags { script.now.setup.tags ≤ 64 }
     requires at { (t : List AnEvent) × IsAt script.now machine.old counts.old t }
     ensures ends { (t : List AnEvent) → IsAt script.now machine.old counts.old t → result ≡ None → t ≡ driven_trace script.now }
     ensures goes { (t : List AnEvent) → IsAt script.now machine.old counts.old t → IfSome result (λ e. IsAt script.now machine.new counts.new (e ∷ t)) }
     ensures formed { IfSome result (λ e. IsTrue (well_formed e)) }
+    ensures version_one { IfSome result (λ e. IsTrue (fits_version_one e)) }
 {
     if is_done(script, machine, counts) {
         return None;
     }
-    let event = choose(script, machine, counts)?;
+    let Some(event) = choose(script, machine, counts) else {
+        unreachable!("where not all is done, something can be chosen")
+    };
     match machine.apply(&event) {
         Ok(()) => {
             count(counts, &event.cause);
             Some(event)
         }
-        Err(_) => None,
+        Err(_) => unreachable!("what can be chosen is allowed"),
     }
 }
 

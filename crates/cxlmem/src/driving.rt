@@ -1,10 +1,11 @@
 // The command `drive`: a script in, its driven trace out.
 ghost use Rattle.std.specs.Prelude.{◌≡◌, ◌⊎◌, ◌^◌, ◌<◌, ◌≤◌, [], Some, IfSome, length};
 ghost use Rattle.std.specs.Io.KnownBytes.{Appends};
-ghost use Rattle.cxlmem.specs.Statuses.{IsAnswer};
+ghost use Rattle.outside_io.specs.Counts.{TellsFaults};
+ghost use Rattle.cxlmem.specs.Statuses.{IsAnswer, TellsWriteFault};
 ghost use Rattle.cxlmem.specs.Texts.{not_built_text, read_fault_text, too_long_text};
 ghost use Rattle.cxlmem.specs.Outcomes.{WritesText};
-ghost use Rattle.cxlmem.specs.Drives.{Drives, DrivesFront, IsTooLong, IsUnbuiltScript, RefusesScript, script_limit};
+ghost use Rattle.cxlmem.specs.Drives.{Drives, DrivesFront, IsBadScript, IsTooLong, IsUnbuiltScript, RefusesScript, script_limit};
 
 use crate::ends::{Status, bad_script, not_built, read_fault, too_long};
 use crate::plain::is_plain;
@@ -25,9 +26,9 @@ pub fn drive<S: Source, K: Sink>(alloc: Global, source: &mut S, sink: &mut K) ->
     ensures driven { result ≡ Status.Ok → IfSome (S.left source.old) (λ input. Drives input (K.gone sink.old) (K.gone sink.new)) }
 
     ensures no_usage { result ≡ Status.Usage → ⊥ }
-    ensures read_fault { result ≡ Status.ReadFault → S.faults source.old < S.faults source.new }
-    ensures write_fault { result ≡ Status.WriteFault → K.faults sink.old < K.faults sink.new }
-    ensures bad_script { result ≡ Status.BadScript → IfSome (S.left source.old) (λ input. RefusesScript input (K.gone sink.old) (K.gone sink.new) (K.faults sink.old) (K.faults sink.new)) }
+    ensures read_fault { TellsFaults (S.faults source.old) (S.faults source.new) (result ≡ Status.ReadFault) }
+    ensures write_fault { TellsWriteFault (K.faults sink.old) (K.faults sink.new) result }
+    ensures bad_script { result ≡ Status.BadScript → RefusesScript (S.left source.old) (K.gone sink.old) (K.gone sink.new) (K.faults sink.old) (K.faults sink.new) }
     ensures too_long { result ≡ Status.TooLong → IfSome (S.left source.old) IsTooLong }
     ensures not_built { result ≡ Status.NotBuilt → IfSome (S.left source.old) IsUnbuiltScript }
     ensures nothing_else { IsAnswer result }
@@ -55,8 +56,8 @@ fn drive_input<K: Sink>(alloc: Global, input: &[u8], sink: &mut K) -> Status
     ensures no_usage { result ≡ Status.Usage → ⊥ }
     ensures read_well { result ≡ Status.ReadFault → ⊥ }
     ensures not_long { result ≡ Status.TooLong → ⊥ }
-    ensures write_fault { result ≡ Status.WriteFault → K.faults sink.old < K.faults sink.new }
-    ensures bad_script { result ≡ Status.BadScript → RefusesScript input.now (K.gone sink.old) (K.gone sink.new) (K.faults sink.old) (K.faults sink.new) }
+    ensures write_fault { TellsWriteFault (K.faults sink.old) (K.faults sink.new) result }
+    ensures bad_script { result ≡ Status.BadScript → RefusesScript (Some input.now) (K.gone sink.old) (K.gone sink.new) (K.faults sink.old) (K.faults sink.new) }
     ensures not_built { result ≡ Status.NotBuilt → IsUnbuiltScript input.now }
     ensures nothing_else { IsAnswer result }
 

@@ -1,4 +1,8 @@
-// The program: words and bytes in, a status and bytes out.
+//! The program: words and bytes in, a status and bytes out. `command` does all of it, over any source and sink, and its
+//! contract says what each status means; `main` hands it the words, standard input and standard output, and has no
+//! contract.
+//!
+//! The words, the statuses and the texts are this project's own and no statement about the CXL standard.
 #![tactic(auto)]
 
 mod begun;

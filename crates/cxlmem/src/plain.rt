@@ -1,7 +1,6 @@
 // Which scripts are driven today.
 ghost use Rattle.std.specs.Prelude.{◌≡◌, not};
 ghost use Rattle.std.specs.List.{list_all};
-ghost use Rattle.machine.specs.Built.{is_whole};
 ghost use Rattle.cxlmem.specs.Drives.{has_no_whole, is_plain_script};
 
 use cxl_message::Op;
@@ -37,16 +36,5 @@ fn stores_no_whole(script: &Script) -> bool
 fn are_no_whole(ops: &[Op]) -> bool
     ensures { result ≡ has_no_whole ops.now }
 {
-    ops.iter().all(|op| !stores_whole(op))
-}
-
-/// Whether an operation stores a whole line.
-fn stores_whole(op: &Op) -> bool
-    ensures { result ≡ is_whole op.now }
-{
-    match op {
-        Op::Load { .. } => false,
-        Op::Word { .. } => false,
-        Op::Whole { .. } => true,
-    }
+    ops.iter().all(|op| !op.is_whole())
 }

@@ -1,8 +1,10 @@
 // The commands over sources and sinks in memory: worked examples, each read and write failing once, and each refusal.
 mod examples;
+mod line_feeds;
 
 use super::*;
 use examples::*;
+use line_feeds::LineFeeds;
 use outside_io::{MemSink, MemSource};
 use std::alloc::{AllocError, Global};
 use std::process::Abort;
@@ -176,10 +178,9 @@ fn other_inputs_are_refused_at_their_line(rt: HostRuntime) -> Result<(), Fail> {
 }
 
 /// What `drive` writes for so many line feeds.
-fn line_feeds(alloc: Global, count: usize) -> Result<Outcome, AllocError> {
+fn drive_line_feeds(alloc: Global, count: u64) -> Result<Outcome, AllocError> {
     let owned = words_of(alloc, &["drive"])?;
-    let input = vec![in alloc; b'\n'; count]?;
-    let mut source = MemSource::new(input, 65536, Vec::new(alloc));
+    let mut source = LineFeeds { left: count };
     let mut sink = MemSink::new(alloc, 100, 100, Vec::new(alloc))?;
     let status = command(alloc, &owned, &mut source, &mut sink);
     Ok(Outcome {
@@ -190,11 +191,88 @@ fn line_feeds(alloc: Global, count: usize) -> Result<Outcome, AllocError> {
 
 #[test]
 fn a_byte_too_many_is_too_long(rt: HostRuntime) -> Result<(), Fail> {
-    let most = line_feeds(rt.alloc(), 67108864)?;
+    let most = drive_line_feeds(rt.alloc(), 67108864)?;
     assert_eq!(rt; most.status, Status::BadScript);
-    let more = line_feeds(rt.alloc(), 67108865)?;
+    let more = drive_line_feeds(rt.alloc(), 67108865)?;
     assert_eq!(rt; more.status, Status::TooLong);
     assert!(rt; more.written.as_slice() == b"too long\n".as_slice());
+    Ok(())
+}
+
+/// A script of one line and so many streams with so many loads each.
+fn loads(alloc: Global, streams: usize, loads: usize) -> Result<Vec<u8>, AllocError> {
+    let mut script = Vec::from_slice(
+        alloc,
+        b"hosts 1\nlines 1\nfilter 1\nways 1\ntags 2\ncredits 2\nroom 1000\n",
+    )?;
+    for _ in 0..streams {
+        script.extend_from_slice(b"stream 0\n")?;
+        for _ in 0..loads {
+            script.extend_from_slice(b"load 0\n")?;
+        }
+    }
+    Ok(script)
+}
+
+/// What `drive` writes for a script, to a sink that takes 20,000 bytes at a time and fails at these writes.
+fn drive_long(alloc: Global, script: &[u8], failing_writes: &[u64]) -> Result<Outcome, AllocError> {
+    let owned = words_of(alloc, &["drive"])?;
+    let mut source = MemSource::new(Vec::from_slice(alloc, script)?, 65536, Vec::new(alloc));
+    let mut sink = MemSink::new(
+        alloc,
+        100_000,
+        20_000,
+        Vec::from_slice(alloc, failing_writes)?,
+    )?;
+    let status = command(alloc, &owned, &mut source, &mut sink);
+    Ok(Outcome {
+        status,
+        written: Vec::from_slice(alloc, sink.bytes())?,
+    })
+}
+
+/// The sum of some bytes.
+fn sum_of(bytes: &[u8]) -> u64 {
+    bytes
+        .iter()
+        .fold(0u64, |sum, byte| sum.wrapping_add(u64::from(*byte)))
+}
+
+#[test]
+fn sixty_four_streams_are_driven(rt: HostRuntime) -> Result<(), Fail> {
+    let done = drive_long(rt.alloc(), &loads(rt.alloc(), 64, 1)?, &[])?;
+    assert_eq!(rt; done.status, Status::Ok);
+    assert_eq!(rt; (done.written.len(), sum_of(&done.written)), (5961, 6058));
+    assert_eq!(rt; done.written.get(13), Some(&64));
+    assert!(rt;
+        done.written.get(5952..) == Some(b"\xff\x00\x00\x00\x00\x00\x00\x00\x4b".as_slice())
+    );
+    let refused = drive_long(rt.alloc(), &loads(rt.alloc(), 65, 1)?, &[])?;
+    assert_eq!(rt; refused.status, Status::BadScript);
+    assert!(rt; refused.written.as_slice() == b"bad script: line 136: many\n".as_slice());
+    Ok(())
+}
+
+#[test]
+fn a_long_trace_goes_out_in_pieces(rt: HostRuntime) -> Result<(), Fail> {
+    let script = loads(rt.alloc(), 1, 1000)?;
+    let whole = drive_long(rt.alloc(), &script, &[])?;
+    assert_eq!(rt; whole.status, Status::Ok);
+    assert_eq!(rt;
+        (whole.written.len(), sum_of(&whole.written)),
+        (88_266, 258_238)
+    );
+    for (k, gone) in [0usize, 20_000, 40_000, 60_000, 65_025, 85_025]
+        .iter()
+        .enumerate()
+    {
+        let failed = drive_long(rt.alloc(), &script, &[k as u64])?;
+        assert_eq!(rt; failed.status, Status::WriteFault, "at write {k}");
+        assert!(rt;
+            Some(failed.written.as_slice()) == whole.written.get(..*gone),
+            "at write {k}"
+        );
+    }
     Ok(())
 }
 

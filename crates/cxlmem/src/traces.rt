@@ -1,25 +1,27 @@
 // The driven trace of a plain script, written as it is driven.
 ghost use Rattle.std.specs.Prelude.{◌≡◌, ◌≢◌, ◌+◌, ◌^◌, ◌<◌, ◌≤◌, ◌⊎◌, [], IsErrOf, List, OnErr, OnOk, Option, reverse, ℕ};
-ghost use Rattle.std.specs.Io.KnownBytes.{Appends};
 ghost use Rattle.coherence_model.specs.Driven.{driven_trace};
 ghost use Rattle.driven_laws.specs.Scripts.{IsPlain};
 ghost use Rattle.machine.specs.Stands.{StandsFor};
-ghost use Rattle.trace_stream.specs.Writing.{reach};
-ghost use Rattle.trace_stream.specs.declared.writers.Progress.{Progress};
+ghost use Rattle.outside_io.specs.Counts.{TellsFaults};
+ghost use Rattle.trace_stream.specs.Buffers.{reach};
+ghost use Rattle.trace_stream.specs.Writing.{IsNew};
+ghost use Rattle.trace_stream.specs.declared.progress.Progress.{Progress};
 ghost use Rattle.cxlmem.specs.Drives.{driven_bytes};
 ghost use Rattle.cxlmem.specs.Outcomes.{WritesFront};
-ghost use Rattle.cxlmem.specs.Outputs.{HasPut};
+ghost use Rattle.cxlmem.specs.Outputs.{HasPut, WritesDriven};
+ghost use Rattle.cxlmem.specs.Statuses.{TellsWriteFault};
 
 use crate::driver::turn;
 use crate::ends::Status;
-use machine::Machine;
+use machine::{Machine, OpenMachineRefusal};
 use outside_io::Sink;
 use script_text::Script;
 use std::alloc::Global;
 use trace_stream::{TraceWriteRefusal, TraceWriter};
 
-// More events than any plain script's driven trace has: 105 for each of 65,536 operations.
-const MOST_EVENTS: u64 = 6881280;
+// One turn more than any plain script's driven trace has events: 105 for each of 65,536 operations.
+const MOST_TURNS: u64 = 6881281;
 
 /// Writes the driven trace of a plain script, in pieces, as it is driven.
 pub fn write_trace<K: Sink>(alloc: Global, script: &Script, sink: &mut K) -> Status
@@ -27,18 +29,22 @@ pub fn write_trace<K: Sink>(alloc: Global, script: &Script, sink: &mut K) -> Sta
     requires no_picks { script.now.picks ≡ [] }
     requires sink_counts { K.highest_count sink.old < 2 ^ 62 }
 
-    ensures written { result ≡ Status.Ok → Appends (K.gone sink.old) (K.gone sink.new) (driven_bytes script.now) }
+    ensures written { result ≡ Status.Ok → WritesDriven (K.gone sink.old) (K.gone sink.new) script.now }
     ensures cut_short { result ≢ Status.Ok → WritesFront (K.gone sink.old) (K.gone sink.new) (driven_bytes script.now) }
-    ensures write_fault { result ≡ Status.WriteFault → K.faults sink.old < K.faults sink.new }
+    ensures write_fault { TellsWriteFault (K.faults sink.old) (K.faults sink.new) result }
     ensures nothing_else { (result ≡ Status.Ok) ⊎ (result ≡ Status.WriteFault) ⊎ (result ≡ Status.Memory) }
 {
-    let Ok(mut machine) = Machine::open(alloc, script.setup(), script.opening()) else {
-        return Status::Memory;
+    let mut machine = match Machine::open(alloc, script.setup(), script.opening()) {
+        Ok(machine) => machine,
+        Err(OpenMachineRefusal::BadOpening) => { unreachable!("a script opens lines of its setup") }
+        Err(OpenMachineRefusal::Memory) => return Status::Memory,
     };
     let Ok(mut writer) = TraceWriter::new(alloc, sink) else {
-        return Status::Memory;
+        unreachable!("a new writer is never refused")
     };
-    match put_trace(script, &mut machine, &mut writer) {
+    let result = put_trace(script, &mut machine, &mut writer);
+    writer.into_sink();
+    match result {
         Ok(()) => Status::Ok,
         Err(TraceWriteRefusal::WriteFault) => Status::WriteFault,
         Err(TraceWriteRefusal::Memory) => Status::Memory,
@@ -52,17 +58,16 @@ fn put_trace<K: Sink>(
     writer: &mut TraceWriter<K>,
 ) -> Result<(), TraceWriteRefusal>
     requires plain { IsPlain script.now }
+    requires tags { script.now.setup.tags ≤ 64 }
     requires no_picks { script.now.picks ≡ [] }
     requires opened { StandsFor machine.old script.now.setup script.now.opening [] }
-    requires new { writer.old.progress ≡ Progress.New }
-    requires empty { writer.old.waiting.items ≡ [] }
-    requires none { writer.old.count ≡ 0 }
-    requires sink_counts { K.highest_count writer.old.sink.now < 2 ^ 62 }
+    requires new { IsNew writer.old }
+    requires sink_counts { writer.old.out.highest < 2 ^ 62 }
 
-    ensures written { OnOk result (Appends (K.gone writer.old.sink.now) (K.gone writer.new.sink.now) (driven_bytes script.now)) }
-    ensures cut_short { OnErr result (WritesFront (K.gone writer.old.sink.now) (K.gone writer.new.sink.now) (driven_bytes script.now)) }
-    ensures write_fault { IsErrOf result TraceWriteRefusal.WriteFault → K.faults writer.old.sink.now < K.faults writer.new.sink.now }
-    ensures same_sink { writer.new.sink.ghost_name ≡ writer.old.sink.ghost_name }
+    ensures written { OnOk result (WritesDriven writer.old.out.gone writer.new.out.gone script.now) }
+    ensures cut_short { OnErr result (WritesFront writer.old.out.gone writer.new.out.gone (driven_bytes script.now)) }
+    ensures faults { TellsFaults writer.old.out.faults writer.new.out.faults (IsErrOf result TraceWriteRefusal.WriteFault) }
+    ensures same_sink { writer.new.out.sink ≡ writer.old.out.sink }
 {
     begin_trace(script, writer)?;
     put_events(script, machine, writer)?;
@@ -75,18 +80,17 @@ fn begin_trace<K: Sink>(
     writer: &mut TraceWriter<K>,
 ) -> Result<(), TraceWriteRefusal>
     requires plain { IsPlain script.now }
-    requires new { writer.old.progress ≡ Progress.New }
-    requires empty { writer.old.waiting.items ≡ [] }
-    requires none { writer.old.count ≡ 0 }
-    requires sink_counts { K.highest_count writer.old.sink.now < 2 ^ 62 }
+    requires tags { script.now.setup.tags ≤ 64 }
+    requires new { IsNew writer.old }
+    requires sink_counts { writer.old.out.highest < 2 ^ 62 }
 
-    ensures begun { OnOk result (HasPut (K.gone writer.old.sink.now) (K.gone writer.new.sink.now) writer.new.waiting.items writer.new.count script.now []) }
+    ensures begun { OnOk result (HasPut writer.old.out.gone writer.new script.now []) }
     ensures progress { OnOk result (writer.new.progress ≡ Progress.Begun) }
-    ensures cut_short { OnErr result (WritesFront (K.gone writer.old.sink.now) (K.gone writer.new.sink.now) (driven_bytes script.now)) }
-    ensures write_fault { IsErrOf result TraceWriteRefusal.WriteFault → K.faults writer.old.sink.now < K.faults writer.new.sink.now }
-    ensures faults { K.faults writer.old.sink.now ≤ K.faults writer.new.sink.now }
-    ensures counts { OnOk result (reach (K.highest_count writer.new.sink.now) writer.new.waiting.items < 2 ^ 62 + 2 ^ 34) }
-    ensures same_sink { writer.new.sink.ghost_name ≡ writer.old.sink.ghost_name }
+    ensures none { OnOk result (writer.new.count ≡ 0) }
+    ensures cut_short { OnErr result (WritesFront writer.old.out.gone writer.new.out.gone (driven_bytes script.now)) }
+    ensures faults { TellsFaults writer.old.out.faults writer.new.out.faults (IsErrOf result TraceWriteRefusal.WriteFault) }
+    ensures counts { OnOk result (reach writer.new.out < 2 ^ 62 + 2 ^ 34) }
+    ensures same_sink { writer.new.out.sink ≡ writer.old.out.sink }
 {
     writer.begin(script.setup(), script.opening())
 }
@@ -98,30 +102,26 @@ fn put_events<K: Sink>(
     writer: &mut TraceWriter<K>,
 ) -> Result<(), TraceWriteRefusal>
     requires plain { IsPlain script.now }
+    requires tags { script.now.setup.tags ≤ 64 }
     requires no_picks { script.now.picks ≡ [] }
     requires opened { StandsFor machine.old script.now.setup script.now.opening [] }
     requires begun { writer.old.progress ≡ Progress.Begun }
     requires none { writer.old.count ≡ 0 }
-    requires counts { reach (K.highest_count writer.old.sink.now) writer.old.waiting.items < 2 ^ 62 + 2 ^ 34 }
+    requires counts { reach writer.old.out < 2 ^ 62 + 2 ^ 34 }
 
-    ensures put { (start : Option (List ℕ))
-        → HasPut start (K.gone writer.old.sink.now) writer.old.waiting.items writer.old.count script.now []
-        → OnOk result (HasPut start (K.gone writer.new.sink.now) writer.new.waiting.items writer.new.count script.now (reverse (driven_trace script.now))) }
+    ensures put { (start : Option (List ℕ)) → HasPut start writer.old script.now [] → OnOk result (HasPut start writer.new script.now (reverse (driven_trace script.now))) }
     ensures progress { OnOk result (writer.new.progress ≡ Progress.Begun) }
-    ensures cut_short { (start : Option (List ℕ))
-        → HasPut start (K.gone writer.old.sink.now) writer.old.waiting.items writer.old.count script.now []
-        → OnErr result (WritesFront start (K.gone writer.new.sink.now) (driven_bytes script.now)) }
-    ensures write_fault { IsErrOf result TraceWriteRefusal.WriteFault → K.faults writer.old.sink.now < K.faults writer.new.sink.now }
-    ensures faults { K.faults writer.old.sink.now ≤ K.faults writer.new.sink.now }
-    ensures counts { OnOk result (reach (K.highest_count writer.new.sink.now) writer.new.waiting.items < 2 ^ 62 + 2 ^ 35) }
-    ensures same_sink { writer.new.sink.ghost_name ≡ writer.old.sink.ghost_name }
+    ensures cut_short { (start : Option (List ℕ)) → HasPut start writer.old script.now [] → OnErr result (WritesFront start writer.new.out.gone (driven_bytes script.now)) }
+    ensures faults { TellsFaults writer.old.out.faults writer.new.out.faults (IsErrOf result TraceWriteRefusal.WriteFault) }
+    ensures counts { OnOk result (reach writer.new.out < 2 ^ 62 + 2 ^ 35) }
+    ensures same_sink { writer.new.out.sink ≡ writer.old.out.sink }
 {
     let mut counts = [0u32; 64];
-    for _ in 0..MOST_EVENTS {
+    for _ in 0..MOST_TURNS {
         match turn(script, machine, &mut counts) {
             Some(event) => writer.put(&event)?,
             None => return Ok(()),
         }
     }
-    Ok(())
+    unreachable!("a driven trace has fewer events")
 }

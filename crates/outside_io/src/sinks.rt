@@ -8,7 +8,8 @@ use crate::Failed;
 
 /// Where bytes go to (own rule).
 ///
-/// A sink may tell what has gone to it. Its count of faults never falls, and has risen where a write fails.
+/// A sink may tell what has gone to it. Its count of faults rises where a write fails, and stands still where none
+/// does: no fault is made up, and none is passed over.
 pub trait Sink {
     /// The bytes that have gone to the sink, where it tells.
     ghost gone: { Self → Option (List ℕ) };
@@ -21,7 +22,7 @@ pub trait Sink {
 
     /// Takes some of the first bytes of `from`, and answers how many: at least one, where `from` isn't empty.
     ///
-    /// `Err` comes only where a fault was counted in this call, and what has gone is then unchanged.
+    /// `Err` comes exactly where a fault was counted in this call, and what has gone is then unchanged.
     fn write(&mut self, from: &[u8]) -> Result<usize, Failed>
         requires { highest_count self.old + length from.now + 1 < 2 ^ 63 }
         ensures within { WritesAtMost result from.now }

@@ -8,7 +8,8 @@ use crate::Failed;
 
 /// Where bytes come from (own rule).
 ///
-/// A source may tell what it has left. Its count of faults never falls, and has risen where a read fails.
+/// A source may tell what it has left. Its count of faults rises where a read fails, and stands still where none
+/// does: no fault is made up, and none is passed over.
 pub trait Source {
     /// The bytes that are left to read, where the source tells.
     ghost left: { Self → Option (List ℕ) };
@@ -21,7 +22,7 @@ pub trait Source {
 
     /// Reads some of the bytes that are left into the front of `into`, and answers how many.
     ///
-    /// `Ok(0)` for an `into` that isn't empty is the end of the input. `Err` comes only where a fault was counted
+    /// `Ok(0)` for an `into` that isn't empty is the end of the input. `Err` comes exactly where a fault was counted
     /// in this call, and what is left is then unchanged.
     fn read(&mut self, into: &mut [u8]) -> Result<usize, Failed>
         requires { highest_count self.old + 1 < 2 ^ 63 }

@@ -1,6 +1,6 @@
-ghost use Rattle.std.specs.Prelude.{◌≡◌, ◌+◌, ◌*◌, ◌^◌, ◌<◌, ◌≤◌, length, take, IfOk, IfErr, OnOk, OnErr, IsErrOf, vec_len};
+ghost use Rattle.std.specs.Prelude.{◌≡◌, ◌+◌, ◌*◌, ◌^◌, ◌<◌, ◌≤◌, length, take, IfOk, IfErr, OnOk, IsErrOf, vec_len};
 ghost use Rattle.std.specs.Io.KnownBytes.{Appends};
-ghost use Rattle.outside_io.specs.Counts.{RisesAtMost};
+ghost use Rattle.outside_io.specs.Counts.{HasCause, RisesAtMost, TellsFaults};
 ghost use Rattle.outside_io.specs.Whole.{ReadsWhole, LosesOver, LosesWithin};
 
 use crate::{Sink, Source};
@@ -36,7 +36,7 @@ pub struct WriteAllRefusal {
 
 /// Reads all that is left, up to its end (own rule).
 ///
-/// `ReadFault` comes only where a fault was counted in this call, `TooLong` exactly where more than `limit` bytes
+/// `ReadFault` comes exactly where a fault was counted in this call, `TooLong` exactly where more than `limit` bytes
 /// came before an end or a fault, `Memory` where memory was refused. What was read is gone after each refusal.
 /// No count of the source rises by more than `limit` + 1.
 #[tactic(auto, using(crate::proofs::Bytes::LosesOver_more, crate::proofs::Bytes::LosesWithin_more))]
@@ -50,12 +50,11 @@ pub fn read_all<S: Source>(
     ensures whole { IfOk result (λ bytes. ReadsWhole (S.left source.old) (S.left source.new) bytes.items) }
     ensures within { IfOk result (λ bytes. vec_len bytes ≤ limit) }
 
-    ensures read_fault { IsErrOf result ReadAllRefusal.ReadFault → S.faults source.old < S.faults source.new }
+    ensures faults { TellsFaults (S.faults source.old) (S.faults source.new) (IsErrOf result ReadAllRefusal.ReadFault) }
     ensures read_until_fault { IsErrOf result ReadAllRefusal.ReadFault → LosesWithin limit (S.left source.old) (S.left source.new) }
     ensures too_long { IsErrOf result ReadAllRefusal.TooLong → LosesOver limit (S.left source.old) (S.left source.new) }
     ensures memory { IsErrOf result ReadAllRefusal.Memory → LosesWithin limit (S.left source.old) (S.left source.new) }
 
-    ensures faults { S.faults source.old ≤ S.faults source.new }
     ensures counts { RisesAtMost (limit + 1) (S.highest_count source.old) (S.highest_count source.new) }
 {
     let mut bytes = Vec::new(alloc);
@@ -78,18 +77,17 @@ pub fn read_all<S: Source>(
 
 /// Writes all of `bytes` (own rule).
 ///
-/// `Err` comes only where a fault was counted in this call; exactly the first `gone` bytes went. It takes no memory.
+/// `Err` comes exactly where a fault was counted in this call; exactly the first `gone` bytes went. It takes no memory.
 /// No count of the sink rises by more than twice the number of `bytes`, and one.
 pub fn write_all<K: Sink>(sink: &mut K, bytes: &[u8]) -> Result<(), WriteAllRefusal>
     requires { K.highest_count sink.old + 2 * length bytes.now + 1 < 2 ^ 63 }
 
     ensures whole { OnOk result (Appends (K.gone sink.old) (K.gone sink.new) bytes.now) }
 
-    ensures fault { OnErr result (K.faults sink.old < K.faults sink.new) }
+    ensures cause { HasCause (K.faults sink.old) (K.faults sink.new) result }
     ensures part { IfErr result (λ refusal. refusal.gone < length bytes.now) }
     ensures front { IfErr result (λ refusal. Appends (K.gone sink.old) (K.gone sink.new) (take refusal.gone bytes.now)) }
 
-    ensures faults { K.faults sink.old ≤ K.faults sink.new }
     ensures counts { RisesAtMost (2 * length bytes.now + 1) (K.highest_count sink.old) (K.highest_count sink.new) }
 {
     let mut gone = 0;

@@ -1,5 +1,5 @@
-// The work that `bench/run` times: the trace of mixed event records is read and written in pieces, and its records are
-// decoded and encoded alone, as many rounds as are asked for.
+//! The work that `bench/run` times: the trace of mixed event records is read and written in pieces, and its records are
+//! decoded and encoded alone, as many rounds as are asked for.
 #![tactic(auto)]
 
 mod reading;

@@ -3,8 +3,8 @@ ghost use Rattle.std.specs.Prelude.{◌≡◌, ◌+◌, ◌^◌, ◌<◌, ◌≤
 ghost use Rattle.trace_stream.specs.Readings.{fed_count};
 
 use crate::work::Tally;
-use cxl_codec::{decode_event_into, decode_header};
-use cxl_message::Event;
+use cxl_codec::{decode_header, decode_room};
+use event_room::EventRoom;
 use std::alloc::{AllocError, Global};
 use trace_stream::{Found, Room, TraceReader};
 
@@ -14,20 +14,18 @@ const LIMIT: u64 = 1 << 62;
 /// The most items that stand in the bytes of a reader.
 const ITEMS: usize = 365;
 
-/// Decodes the event records of a trace from the front, each into the same event.
-pub fn decode(trace: &[u8], room: &mut [Event], tally: &mut Tally) {
+/// Decodes the event records of a trace from the front, each into the same room.
+pub fn decode(trace: &[u8], room: &mut EventRoom, tally: &mut Tally) {
     let Ok((_, length)) = decode_header(trace) else {
         return;
     };
     let mut rest = trace.get(length..).unwrap_or(&[]);
-    for event in room.iter_mut() {
-        for _ in 0..trace.len() {
-            let Ok(length) = decode_event_into(rest, event) else {
-                break;
-            };
-            tally.add_event(event);
-            rest = rest.get(length..).unwrap_or(&[]);
-        }
+    for _ in 0..trace.len() {
+        let Ok(length) = decode_room(rest, room) else {
+            break;
+        };
+        tally.add_event(room);
+        rest = rest.get(length..).unwrap_or(&[]);
     }
     tally.add_bytes(trace.len());
 }

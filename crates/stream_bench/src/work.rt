@@ -1,8 +1,7 @@
 // Rounds over one trace of mixed event records, each group of eleven as in `bench_events`.
 use crate::reading::{decode, read};
 use crate::writing::{encode, trace_of, write};
-use bench_events::begun;
-use cxl_message::{Event, Sends};
+use event_room::{EventRoom, SendsRef};
 use std::alloc::{AllocError, Global};
 
 /// What is timed.
@@ -47,7 +46,7 @@ pub struct Tally {
 
 impl Tally {
     /// Counts one event.
-    pub fn add_event(&mut self, event: &Event) {
+    pub fn add_event(&mut self, event: &EventRoom) {
         self.records = self.records.wrapping_add(1);
         self.weight = self.weight.wrapping_add(weight_of(event));
     }
@@ -66,8 +65,7 @@ impl Tally {
 /// Does the work so many rounds over a trace of so many groups of records.
 pub fn run(alloc: Global, work: Work, size: Size) -> Result<Tally, AllocError> {
     let trace = trace_of(alloc, size.groups)?;
-    let mut room = Vec::new(alloc);
-    room.push(begun())?;
+    let mut room = EventRoom::new();
     let mut tally = Tally {
         records: 0,
         bytes: 0,
@@ -86,15 +84,15 @@ pub fn run(alloc: Global, work: Work, size: Size) -> Result<Tally, AllocError> {
 }
 
 /// A number that depends on the parts of an event.
-fn weight_of(event: &Event) -> u64 {
-    let sent: u64 = match &event.sends {
-        Sends::Nothing => 0,
-        Sends::One(_) => 1,
-        Sends::Two(_, _) => 2,
+fn weight_of(event: &EventRoom) -> u64 {
+    let sent: u64 = match event.sends() {
+        SendsRef::Nothing => 0,
+        SendsRef::One(_) => 1,
+        SendsRef::Two(_, _) => 2,
     };
-    let seen = match &event.commit {
+    let seen = match event.commit() {
         None => 0,
-        Some(commit) => u64::from(commit.value.0[63]),
+        Some(commit) => u64::from(commit.value[63]),
     };
     sent.wrapping_add(seen)
 }

@@ -1,7 +1,8 @@
 // A trace is written to a sink that takes pieces, or its records are encoded alone.
-ghost use Rattle.std.specs.Prelude.{◌≡◌, ◌+◌, ◌*◌, ◌^◌, ◌<◌, ◌≤◌, OnOk};
-ghost use Rattle.trace_stream.specs.Writing.{reach};
-ghost use Rattle.trace_stream.specs.declared.writers.Progress.{Progress};
+ghost use Rattle.std.specs.Prelude.{◌≡◌, ◌+◌, ◌*◌, ◌^◌, ◌<◌, ◌≤◌, IfSome, IsTrue, OnOk};
+ghost use Rattle.cxl_codec.specs.VersionOne.{setup_fits_version_one};
+ghost use Rattle.trace_stream.specs.Buffers.{reach};
+ghost use Rattle.trace_stream.specs.declared.progress.Progress.{Progress};
 
 use crate::work::{Size, Tally};
 use bench_events::{
@@ -55,7 +56,9 @@ pub fn write(alloc: Global, trace: &[u8], size: Size, tally: &mut Tally) -> Resu
 }
 
 /// The setup of the trace, if it is one.
-fn setup() -> Option<Setup> {
+fn setup() -> Option<Setup>
+    ensures { IfSome result (λ setup. IsTrue (setup_fits_version_one setup)) }
+{
     Setup::new(2, 4, 4, 4, 2, 2, &[0]).ok()
 }
 
@@ -92,17 +95,9 @@ fn write_trace<K: Sink>(alloc: Global, groups: u32, sink: &mut K) -> Result<(), 
         return Err(TraceWriteRefusal::Memory);
     };
     let opening = Opening::new(alloc);
-    let Ok(mut writer) = TraceWriter::new(alloc, sink) else {
-        return Err(TraceWriteRefusal::Memory);
-    };
-    match writer.begin(&setup, &opening) {
-        Ok(()) => {}
-        Err(refusal) => return Err(refusal),
-    }
-    match put_groups(groups, &mut writer) {
-        Ok(()) => {}
-        Err(refusal) => return Err(refusal),
-    }
+    let mut writer = TraceWriter::new(alloc, sink)?;
+    writer.begin(&setup, &opening)?;
+    put_groups(groups, &mut writer)?;
     writer.end()
 }
 
@@ -110,9 +105,9 @@ fn write_trace<K: Sink>(alloc: Global, groups: u32, sink: &mut K) -> Result<(), 
 fn put_groups<K: Sink>(groups: u32, writer: &mut TraceWriter<K>) -> Result<(), TraceWriteRefusal>
     requires begun { writer.old.progress ≡ Progress.Begun }
     requires none { writer.old.count ≡ 0 }
-    requires counts { reach (K.highest_count writer.old.sink.now) writer.old.waiting.items < 2000 }
+    requires counts { reach writer.old.out < 2000 }
     ensures begun { OnOk result (writer.new.progress ≡ Progress.Begun) }
-    ensures counts { OnOk result (reach (K.highest_count writer.new.sink.now) writer.new.waiting.items < 2 ^ 62) }
+    ensures counts { OnOk result (reach writer.new.out < 2 ^ 62) }
 {
     let (begun, asked, started, snooped) = (begun(), asked(), started(), snooped());
     let (conflicted, answered, granted) = (conflicted(), answered(), granted());

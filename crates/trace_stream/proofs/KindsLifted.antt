@@ -1,6 +1,7 @@
 -- The answers on each kind of record, lifted to the kinds that may come at a stage.
 use Rattle.std.proofs.Common.{◌≡◌, ℕ, ◌+◌, ◌<◌, true, false, List, length, take, Result, Ok, Err, refl, arith}
-use Rattle.cxl_message.specs.Setup.{Configuration, IsWithinLimits}
+use Rattle.cxl_message.specs.Setup.{Configuration}
+use Rattle.cxl_codec.specs.VersionOne.{HeaderFits}
 use Rattle.cxl_message.specs.declared.identifiers.Line.{Line}
 use Rattle.cxl_message.specs.declared.identifiers.Bytes64.{Bytes64}
 use Rattle.cxl_message.specs.declared.events.Event.{Event}
@@ -25,7 +26,7 @@ abbrev pub Agrees : List ℕ → ℕ → Item → Type 0
 Agrees bytes at item = take (at + 1) (bytes_of (item_cells item)) ≡ take (at + 1) bytes
 
 -- a header is all that comes first
-pub back_header : (bytes : List ℕ) (item : Item) (at : ℕ) → at < length bytes → IsFirst item → Agrees bytes at item → Comes IsWithinLimits Item.Header item
+pub back_header : (bytes : List ℕ) (item : Item) (at : ℕ) → at < length bytes → IsFirst item → Agrees bytes at item → Comes HeaderFits Item.Header item
 back_header bytes (Item.Header setup) at within fits e = record { value = setup; fits = fits; is = refl }
 back_header bytes (Item.Opened line value) at within fits e = absurd fits
 back_header bytes (Item.Event event) at within fits e = absurd fits
@@ -82,8 +83,8 @@ later_next (Item.Event event) fits = fits
 later_next (Item.End count) fits = fits
 later_next Item.More fits = absurd fits
 
-pub lift_header : (bytes : List ℕ) (a : Result (Configuration × ℕ) DecodeRefusal) → Answers IsWithinLimits header_cells bytes a → Answers IsFirst item_cells bytes (into_answer Item.Header a)
-lift_header bytes a o = lift_answer IsWithinLimits header_cells IsFirst item_cells Item.Header (λ v. refl) (λ v fits. fits) bytes (back_header bytes) a o
+pub lift_header : (bytes : List ℕ) (a : Result (Configuration × ℕ) DecodeRefusal) → Answers HeaderFits header_cells bytes a → Answers IsFirst item_cells bytes (into_answer Item.Header a)
+lift_header bytes a o = lift_answer HeaderFits header_cells IsFirst item_cells Item.Header (λ v. refl) (λ v fits. fits) bytes (back_header bytes) a o
 
 pub lift_end : (bytes : List ℕ) (a : Result (ℕ × ℕ) DecodeRefusal) → begins_with bytes 0xff ≡ true → Answers EndFits end_cells bytes a → Answers IsLater item_cells bytes (into_answer Item.End a)
 lift_end bytes a begins o = lift_answer EndFits end_cells IsLater item_cells Item.End (λ v. refl) (λ v fits. fits) bytes (back_end bytes begins) a o

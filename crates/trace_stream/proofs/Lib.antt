@@ -1,7 +1,7 @@
 pub mod Putting
+pub mod Costs
 pub mod Lengths
 pub mod OpeningBytes
-pub mod Beginnings
 pub mod Heads
 pub mod Lifting
 pub mod KindsLifted
@@ -9,6 +9,7 @@ pub mod Lowering
 pub mod Pauses
 pub mod OneReadings
 pub mod TraceItems
+pub mod Beginnings
 pub mod OneLists
 pub mod WholeTraces
 pub mod Extending

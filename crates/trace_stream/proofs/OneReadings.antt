@@ -1,7 +1,7 @@
 -- At each stage bytes have one answer, and say one thing.
 use Rattle.std.proofs.Common.{◌≡◌, ℕ, ◌<◌, Bool, true, false, List, [], ◌∷◌, length, replicate, None, Result, refl, sym, ap, ◌∙◌, arith}
 use Rattle.std.proofs.lemmas.List.Elements.{All-replicate}
-use Rattle.cxl_message.specs.Setup.{IsWithinLimits}
+use Rattle.cxl_codec.specs.VersionOne.{HeaderFits}
 use Rattle.cxl_message.specs.declared.identifiers.Line.{Line}
 use Rattle.cxl_message.specs.declared.identifiers.Bytes64.{Bytes64}
 use Rattle.cxl_message.specs.declared.events.Act.{Act}
@@ -56,7 +56,7 @@ unfolding some_opening
 some_opening_fits = record { line = omega arith; bytes = record { count = refl; each = All-replicate (λ b. b < 256) 64 0 (omega arith) } }
 
 -- a record of a kind begins by the label by which each begins
-header_begins : (item : Item) → IsFirst item → Begins IsWithinLimits header_cells (first_label (item_cells item))
+header_begins : (item : Item) → IsFirst item → Begins HeaderFits header_cells (first_label (item_cells item))
 header_begins (Item.Header setup) fits = record { value = setup; fits = fits; first = refl }
 header_begins (Item.Opened line bytes) fits = absurd fits
 header_begins (Item.Event e) fits = absurd fits
@@ -91,11 +91,11 @@ later_begins (Item.Event e) fits = record { value = Item.End 0; fits = omega ari
 later_begins (Item.End count) fits = record { value = Item.End 0; fits = omega arith; first = refl }
 later_begins Item.More fits = absurd fits
 
-module _ (headers : HasOneAnswer IsWithinLimits header_cells) (openings : HasOneAnswer OpeningFits opening_cells) (events : HasOneAnswer EventFits event_cells) (ends : HasOneAnswer EndFits end_cells) where
+module _ (headers : HasOneAnswer HeaderFits header_cells) (openings : HasOneAnswer OpeningFits opening_cells) (events : HasOneAnswer EventFits event_cells) (ends : HasOneAnswer EndFits end_cells) where
   one_first : HasOneAnswer IsFirst item_cells
   one_first [] a b p q = one_of_nothing IsFirst item_cells first_long a b p q
   one_first (x ∷ bytes) a b p q =
-      one_lowered IsWithinLimits header_cells IsFirst item_cells Item.Header (λ v. refl) (λ v fits. fits) (x ∷ bytes) (omega arith) (back_header (x ∷ bytes)) first_long header_begins headers a b p q
+      one_lowered HeaderFits header_cells IsFirst item_cells Item.Header (λ v. refl) (λ v fits. fits) (x ∷ bytes) (omega arith) (back_header (x ∷ bytes)) first_long header_begins headers a b p q
 
   later_by : (bytes : List ℕ) → 0 < length bytes → (ending : Bool) → begins_with bytes 0xff ≡ ending → (a b : Result (Item × ℕ) DecodeRefusal) → Answers IsLater item_cells bytes a → Answers IsLater item_cells bytes b → a ≡ b
   later_by bytes some true e a b p q =

@@ -3,13 +3,14 @@ use Rattle.std.proofs.Common.{◌≡◌, ℕ, ◌+◌, ◌<◌, ◌≤◌, List,
 use Rattle.std.proofs.lemmas.List.{take_more}
 use Rattle.std.proofs.lemmas.Grind.{flat_map-append}
 use Rattle.std.proofs.lemmas.Bool.{and_parts, and_from, ltb-true, lt-ltb}
-use Rattle.std.specs.List.{flat_map}
+use Rattle.std.specs.List.{flat_map, AllByRecursion}
 use Rattle.cxl_message.specs.Opening.{opening_fits}
 use Rattle.cxl_message.specs.declared.identifiers.Line.{Line}
 use Rattle.cxl_message.specs.declared.identifiers.Bytes64.{Bytes64}
+use Rattle.cxl_codec.specs.Openings.{OpeningFits}
 use Rattle.cxl_codec.specs.Traces.{opening_bytes}
-use Rattle.trace_stream.specs.Writing.{Puts, PutsFront}
-use Rattle.trace_stream.proofs.Putting.{puts_twice, puts_then_front, front_of_more}
+use Rattle.trace_stream.specs.Buffers.{Puts, PutsFront}
+use Rattle.trace_stream.proofs.Putting.{puts_twice, puts_then_front, front_of_more, all_more}
 
 -- one more opening
 openings_more : (pairs : List (Line × Bytes64)) (i : ℕ) (d : Line × Bytes64) → i < length pairs
@@ -46,3 +47,8 @@ fits_more few many le [] h = refl
 fits_more few many le (p ∷ opening) h =
     let parts = and_parts (nat_lt p.0.0 few) (opening_fits few opening) h in
     and_from _ _ (lt-ltb p.0.0 many (omega (arith, ltb-true p.0.0 few parts.0))) (fits_more few many le opening parts.1)
+
+-- one more opening that has a record
+pub fits_one_more : (pairs : List (Line × Bytes64)) (i : ℕ) (d : Line × Bytes64) → i < length pairs → AllByRecursion OpeningFits (take i pairs) → OpeningFits (get_or pairs i d) → AllByRecursion OpeningFits (take (i + 1) pairs)
+fits_one_more pairs i d lt each one =
+    subst (λ (l : List (Line × Bytes64)). AllByRecursion OpeningFits l) (sym (take_more pairs i d lt)) (all_more OpeningFits (take i pairs) (get_or pairs i d) each one)

@@ -36,7 +36,7 @@ header_length : (setup : Configuration) → length (header_cells setup) ≡ 14 +
 header_length setup = omega (arith, length-map setup.streams (field FieldName.StreamHost))
 
 first_long : (item : Item) → IsFirst item → (0 < item_length item) × (item_length item ≤ 364)
-first_long (Item.Header setup) fits = (omega (arith, header_length setup), omega (arith, header_length setup, fits.streams))
+first_long (Item.Header setup) fits = (omega (arith, header_length setup), omega (arith, header_length setup, fits.limits.streams))
 first_long (Item.Opened line bytes) fits = absurd fits
 first_long (Item.Event e) fits = absurd fits
 first_long (Item.End count) fits = absurd fits

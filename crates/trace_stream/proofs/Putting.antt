@@ -1,9 +1,10 @@
 -- What puts one after the other do.
-use Rattle.std.proofs.Common.{◌≡◌, ℕ, List, [], ◌++◌, take, drop, Option, Result, Ok, Err, refl, sym, ap, ◌∙◌, append_assoc, append-nil, take-append-drop}
+use Rattle.std.proofs.Common.{◌≡◌, ℕ, List, [], ◌∷◌, ◌++◌, take, drop, Option, Result, Ok, Err, refl, sym, ap, ◌∙◌, append_assoc, append-nil, take-append-drop}
 use Rattle.std.specs.Result.{OnErr}
+use Rattle.std.specs.List.{AllByRecursion}
 use Rattle.std.proofs.KnownBytes.{Appends-nil, Appends-trans}
 use Rattle.std.specs.Io.KnownBytes.{Appends}
-use Rattle.trace_stream.specs.Writing.{Puts, PutsFront}
+use Rattle.trace_stream.specs.Buffers.{Puts, PutsFront}
 
 -- bytes that were only put behind those that wait
 pub puts_waiting : (gone : Option (List ℕ)) (waited bytes : List ℕ) → Puts gone gone waited (waited ++ bytes) bytes
@@ -65,3 +66,8 @@ front_of_more a b w s t p = record {
 pub on_refusal : {T E P : Type 0} (r : Result T E) → P → OnErr r P
 on_refusal (Ok x) p = tt
 on_refusal (Err e) p = p
+
+-- facts of elements, and of one more
+pub all_more : {A : Type 0} (P : A → Type 0) (xs : List A) (x : A) → AllByRecursion P xs → P x → AllByRecursion P (xs ++ x ∷ [])
+all_more P [] x each one = (one, tt)
+all_more P (y ∷ xs) x each one = (each.0, all_more P xs x each.1 one)

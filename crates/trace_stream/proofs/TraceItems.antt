@@ -111,4 +111,7 @@ traces_are_read bytes setup opening events trace =
     openings_lead opening setup.lines 0 (ending_items events count) (flat_map event_bytes events ++ end_bytes count) count trace.fits.each_opening trace.ascending.ascending trace.ascending.not_zero trace.lines
     (λ last. first_events_lead events setup.lines last count refl trace.fits.each_event trace.fits.count) in
     let whole : bytes ≡ items_bytes (trace_items setup opening events) = trace.spelled ∙ grouped setup opening events ∙ ap (λ (l : List ℕ). header_bytes setup ++ l) (sym rest.spelled) in
-    (record { spelled = whole ∙ sym (append-nil (items_bytes (trace_items setup opening events))); follow = (trace.fits.limits, refl, rest.follow) }, rest.ended)
+    record {
+      read = record { spelled = whole ∙ sym (append-nil (items_bytes (trace_items setup opening events))); follow = (trace.fits.limits, refl, rest.follow) };
+      ended = rest.ended;
+    }

@@ -3,7 +3,8 @@ use Rattle.std.proofs.Common.{◌≡◌, ℕ, ◌+◌, Bool, true, false, cond, 
 use Rattle.std.specs.Prelude.{◌&&◌, not}
 use Rattle.std.specs.List.{flat_map, list_all, AllByRecursion}
 use Rattle.std.proofs.lemmas.Bool.{and_parts, and_from, eqb-true}
-use Rattle.cxl_message.specs.Setup.{Configuration, IsWithinLimits}
+use Rattle.cxl_message.specs.Setup.{Configuration}
+use Rattle.cxl_codec.specs.VersionOne.{HeaderFits}
 use Rattle.cxl_message.specs.Codes.{bytes_eq}
 use Rattle.cxl_message.specs.Opening.{ascends_from, opening_fits, zero_bytes}
 use Rattle.cxl_message.specs.declared.identifiers.Line.{Line}
@@ -146,7 +147,7 @@ trace_regrouped setup opening events count number =
     sym (append_assoc head middle (last ++ end_bytes count)) ∙ sym (append_assoc (head ++ middle) last (end_bytes count)) ∙ ap (λ (n : ℕ). (head ++ middle) ++ last ++ end_bytes n) number
 
 -- a header, and then all of the others
-from_header : (setup : Configuration) (items : List Item) (count : ℕ) → IsWithinLimits setup → Opens items setup.lines 0 count → IsTraceOf (items_bytes (Item.Header setup ∷ items)) (Item.Header setup ∷ items) count
+from_header : (setup : Configuration) (items : List Item) (count : ℕ) → HeaderFits setup → Opens items setup.lines 0 count → IsTraceOf (items_bytes (Item.Header setup ∷ items)) (Item.Header setup ∷ items) count
 from_header setup items count limits rest = record {
   setup = setup;
   opening = rest.opening;

@@ -1,13 +1,13 @@
 -- The items of a trace, and what bytes are read as. Every rule here is an own rule.
 use Rattle.std.specs.Prelude.{◌≡◌, ℕ, ◌+◌, ◌==◌, ◌&&◌, ◌<◌, ◌^◌, List, [], ◌∷◌, length, Bool, true, false, not, nat_le, nat_lt, Option, Some, None, Result, Ok, Err, if◌then◌else◌}
 use Rattle.std.specs.Option.{option_map_or}
-use Rattle.cxl_message.specs.Setup.{IsWithinLimits}
 use Rattle.cxl_message.specs.Codes.{bytes_eq}
 use Rattle.cxl_message.specs.Opening.{zero_bytes}
 use Rattle.cxl_message.specs.declared.identifiers.Bytes64.{Bytes64}
 use Rattle.cxl_codec.specs.declared.refusals.DecodeRefusal.{DecodeRefusal}
 use Rattle.cxl_codec.specs.Cells.{Cell}
 use Rattle.cxl_codec.specs.Header.{header_cells}
+use Rattle.cxl_codec.specs.VersionOne.{HeaderFits}
 use Rattle.cxl_codec.specs.Openings.{opening_cells, OpeningFits}
 use Rattle.cxl_codec.specs.Events.{event_cells, EventFits}
 use Rattle.cxl_codec.specs.EndRecord.{end_cells, EndFits}
@@ -33,7 +33,7 @@ item_length item = length (item_cells item)
 
 -- a record that comes first: a header
 abbrev pub IsFirst : Item → Type 0
-IsFirst (Item.Header setup) = IsWithinLimits setup
+IsFirst (Item.Header setup) = HeaderFits setup
 IsFirst (Item.Opened line bytes) = ⊥
 IsFirst (Item.Event e) = ⊥
 IsFirst (Item.End count) = ⊥

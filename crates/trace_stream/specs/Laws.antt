@@ -8,7 +8,7 @@ use Rattle.trace_stream.specs.declared.items.Item.{Item}
 use Rattle.trace_stream.specs.declared.items.TraceFault.{TraceFault}
 use Rattle.trace_stream.specs.declared.stages.Stage.{Stage}
 use Rattle.trace_stream.specs.Items.{Says}
-use Rattle.trace_stream.specs.Runs.{stage_after, IsRead, SaysAfter, IsTrace, HasFault, trace_items}
+use Rattle.trace_stream.specs.Runs.{IsRead, IsReadWhole, SaysAfter, IsTrace, HasFault, trace_items}
 
 -- at each stage and place bytes say one thing
 abbrev pub OneReading : Type 0
@@ -27,7 +27,7 @@ OneList = (bytes : List ℕ) (xs ys : List Item) (r q : List ℕ) → IsRead byt
 -- a trace is read as its items, all of it, up to its end
 abbrev pub TracesAreRead : Type 0
 TracesAreRead = (bytes : List ℕ) (setup : Configuration) (opening : List (Line × Bytes64)) (events : List Event) → IsTrace bytes setup opening events
-    → IsRead bytes (trace_items setup opening events) [] × (stage_after Stage.Start (trace_items setup opening events) ≡ Stage.Ended (length events))
+    → IsReadWhole bytes (trace_items setup opening events) (length events)
 
 -- bytes have at most one fault
 abbrev pub OneFault : Type 0

@@ -1,3 +1,4 @@
+pub mod Buffers
 pub mod Writing
 pub mod Items
 pub mod Readings

@@ -68,6 +68,11 @@ pub record IsTrace (bytes : List ℕ) (setup : Configuration) (opening : List (L
 abbrev pub trace_items : Configuration → List (Line × Bytes64) → List Event → List Item
 trace_items setup opening events = Item.Header setup ∷ (map (λ pair. Item.Opened pair.0 pair.1) opening ++ (map Item.Event events ++ Item.End (length events) ∷ []))
 
+-- the bytes are read as these items, all of them, and with them a trace of so many events has ended
+pub record IsReadWhole (bytes : List ℕ) (items : List Item) (count : ℕ) : Type 0 where
+  pub read : IsRead bytes items []
+  pub ended : stage_after Stage.Start items ≡ Stage.Ended count
+
 -- the bytes are a trace of so many events, and these are its items
 pub record IsTraceOf (bytes : List ℕ) (items : List Item) (count : ℕ) : Type 0 where
   pub setup : Configuration

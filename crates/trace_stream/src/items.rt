@@ -10,11 +10,19 @@ pub enum Item {
     /// The header.
     Header(Setup),
     /// An opening record: what a line holds at first.
-    Opened { line: Line, bytes: Bytes64 },
+    Opened {
+        /// The line.
+        line: Line,
+        /// Its bytes, which aren't all zero.
+        bytes: Bytes64,
+    },
     /// An event.
     Event(Event),
     /// The end record, with the number of events.
-    End { count: u64 },
+    End {
+        /// How many events the trace has.
+        count: u64,
+    },
     /// Nothing yet: more bytes are wanted, or the trace has ended.
     More,
 }
@@ -29,7 +37,10 @@ pub enum Found {
     /// An event, which was written to the room.
     Event,
     /// The end record, with the number of events.
-    End { count: u64 },
+    End {
+        /// How many events the trace has.
+        count: u64,
+    },
     /// Nothing yet: more bytes are wanted, or the trace has ended.
     More,
 }
@@ -55,7 +66,9 @@ pub enum Reason {
 #[derive(Clone, Copy, PartialEq, Eq, Debug, Error)]
 #[error("byte {at}: {reason}")]
 pub struct TraceFault {
+    /// The number of bytes before that place.
     pub at: u64,
+    /// Why no trace has the byte that stands there, or ends there.
     pub reason: Reason,
 }
 

@@ -220,7 +220,7 @@ fn item_from(found: Found, room: &Room) -> Item
             line: room.line,
             bytes: room.bytes,
         },
-        Found::Event => Item::Event(room.event),
+        Found::Event => Item::Event(room.event.event()),
         Found::End { count } => Item::End { count },
         Found::More => Item::More,
     }

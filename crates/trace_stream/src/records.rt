@@ -7,7 +7,7 @@ ghost use Rattle.trace_stream.specs.Items.{Allows, IsBelow, IsFirst, IsItem, IsL
 use crate::items::{Found, Reason, TraceFault};
 use crate::rooms::Room;
 use crate::stages::{Stage, refused_whole};
-use cxl_codec::{DecodeRefusal, decode_end, decode_event_into, decode_header, decode_opening};
+use cxl_codec::{DecodeRefusal, decode_end, decode_header, decode_opening, decode_room};
 
 /// Reads a header.
 #[inline(never)]
@@ -80,7 +80,7 @@ fn event_record(bytes: &[u8], room: &mut Room) -> Result<(Found, usize), DecodeR
     requires { begins_with bytes.now 0xff ≡ false }
     ensures { Answers IsLater item_cells bytes.now (answer_of room.new result) }
 {
-    match decode_event_into(bytes, &mut room.event) {
+    match decode_room(bytes, &mut room.event) {
         Ok(length) => Ok((Found::Event, length)),
         Err(refusal) => Err(refusal),
     }
@@ -107,7 +107,7 @@ fn record_at(stage: Stage, bytes: &[u8], room: &mut Room) -> Result<(Found, usiz
         Stage::Start => first_record(bytes, room),
         Stage::Openings { .. } => next_record(bytes, room),
         Stage::Events { .. } => later_record(bytes, room),
-        Stage::Ended { .. } => unreachable!(),
+        Stage::Ended { .. } => unreachable!("no record is read behind the end"),
     }
 }
 

@@ -1,17 +1,10 @@
 // Where a reader writes what it reads.
-use cxl_message::{Act, Bytes64, Cause, Event, Line, Sends, Setup};
-
-/// An event to be written over.
-const BLANK: Event = Event {
-    agent: 0,
-    cause: Cause::Act(Act::Finish(Line(0))),
-    sends: Sends::Nothing,
-    commit: None,
-};
+use cxl_message::{Bytes64, Line, Setup};
+use event_room::EventRoom;
 
 /// Where a reader writes what it reads: of each kind of item the last one, so that no large item passes by value (own
 /// rule).
-#[derive(Clone, Copy, PartialEq, Eq, Debug)]
+#[derive(Drop)]
 pub struct Room {
     /// The setup of the last header.
     pub setup: Setup,
@@ -20,7 +13,7 @@ pub struct Room {
     /// What that line holds at first.
     pub bytes: Bytes64,
     /// The last event.
-    pub event: Event,
+    pub event: EventRoom,
 }
 
 impl Room {
@@ -31,7 +24,7 @@ impl Room {
             setup: least_setup(),
             line: Line(0),
             bytes: Bytes64([0; 64]),
-            event: BLANK,
+            event: EventRoom::new(),
         }
     }
 }
@@ -40,6 +33,6 @@ impl Room {
 fn least_setup() -> Setup {
     match Setup::new(1, 1, 1, 1, 2, 2, &[]) {
         Ok(setup) => setup,
-        Err(_) => unreachable!(),
+        Err(_) => unreachable!("each number is the least of its limits"),
     }
 }

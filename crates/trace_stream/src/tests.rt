@@ -1,3 +1,4 @@
+mod long;
 mod reading;
 mod samples;
 mod writing;

@@ -69,7 +69,7 @@ fn one_room_byte_by_byte(rt: HostRuntime) -> Result<(), Fail> {
         assert!(rt; reader.fed() < 305);
         assert_eq!(rt; reader.feed(&[*byte]), 1);
         match reader.next_into(&mut room)? {
-            Found::Event => events.push((reader.fed(), room.event))?,
+            Found::Event => events.push((reader.fed(), room.event.event()))?,
             Found::Header => assert_eq!(rt; reader.fed(), 15),
             Found::End { count } => assert_eq!(rt; (reader.fed(), count), (305, 6)),
             found => assert_eq!(rt; found, Found::More),

@@ -2,7 +2,7 @@
 use Rattle.std.proofs.Common.{[], inr, sym, ◌∙◌}
 use Rattle.coherent_runs.proofs.Runs.{runs_coherent}
 use Rattle.coherence_model.specs.Driven.{driven_trace, event_bound}
-use Rattle.driven_laws.proofs.Ending.{driven_is_committed}
+use Rattle.driven_laws.proofs.Ending.{driven_is_committed, reached_is_short}
 use Rattle.driven_laws.proofs.Reached.{driving_reaches, reached_is_run}
 use Rattle.cxlmem.proofs.PlainTests.{no_picks_of, plain_of}
 use Rattle.cxlmem.proofs.Statuses.{fault_is_not_ok, memory_is_not_ok}
@@ -24,6 +24,7 @@ returns-then-is_plain-clause-driven g c done =
       driven = record { spells = record { sound = c.in-Ok.ensures.script; spelled = c.in-Ok.ensures.spelled; within = c.requires.within }; plain = passes };
       trace = c.write_trace.ensures.written done;
       commits = driven_is_committed script plain.drivable;
+      short = reached_is_short script plain.drivable (driven_trace script) (driving_reaches script (event_bound script) script.picks [] tt);
       coherent =
           runs_coherent script.setup script.opening plain.drivable.limits (driven_trace script)
           (reached_is_run script plain.drivable (driven_trace script) (driving_reaches script (event_bound script) script.picks [] tt));
@@ -52,4 +53,9 @@ returns-then-is_plain-clause-unfinished g c none = inr (record {
 pub returns-in-Err-Bad-clause-bad_script : goal.returns-in-Err-Bad-clause-bad_script
 returns-in-Err-Bad-clause-bad_script g c _ =
     let refused = rw c.in-Err-Bad.field-0-is at c.in-Err-Bad.ensures in
-    record { within = c.requires.within; line = c.in-Err-Bad.line; reason = c.in-Err-Bad.reason; fails = refused.fails; text = rw (sym c.in-Err-Bad.line-is, sym c.in-Err-Bad.reason-is) c.bad_script.ensures.text }
+    record {
+      line = c.in-Err-Bad.line;
+      reason = c.in-Err-Bad.reason;
+      text = rw (sym c.in-Err-Bad.line-is, sym c.in-Err-Bad.reason-is) c.bad_script.ensures.text;
+      fails = record { within = c.requires.within; fails = refused.fails };
+    }

@@ -1,11 +1,12 @@
 -- An opening has at most 65,536 lines, and what a refusal leaves is a front of the driven trace.
-use Rattle.std.proofs.Common.{List, ap, arith, length, reverse, ◌+◌, ◌≡◌, ◌≤◌}
+use Rattle.std.proofs.Common.{List, ℕ, ap, arith, length, reverse, ◌+◌, ◌≡◌, ◌≤◌}
 use Rattle.std.proofs.lemmas.Result.{on_err_weaker, on_ok_weaker}
 use Rattle.cxl_message.specs.declared.identifiers.Bytes64.{Bytes64}
 use Rattle.cxl_message.specs.declared.identifiers.Line.{Line}
 use Rattle.cxl_codec.specs.Traces.{trace_bytes}
 use Rattle.coherence_model.specs.Driven.{driven_trace}
-use Rattle.trace_stream.specs.Writing.{begin_cost, reach}
+use Rattle.trace_stream.specs.Buffers.{reach}
+use Rattle.trace_stream.specs.Writing.{begin_cost}
 use Rattle.cxlmem.specs.Outcomes.{WritesFront}
 use Rattle.cxlmem.proofs.Fronts.{front_of, of_script}
 use Rattle.cxlmem.proofs.Openings.{few_lines}
@@ -17,13 +18,14 @@ begin-requires-clause-counts g c =
     let lines = c.requires.plain.drivable.limits.lines.1 in
     let few = few_lines 0 script.setup.lines script.opening (omega arith) c.opening.ensures.script.opening.ascending c.opening.ensures.script.opening_lines in
     let size : length c.opening.result.now ≡ length script.opening = ap (λ (pairs : List (Line × Bytes64)). length pairs) c.opening.ensures.opening in
-    omega (arith, few, lines, size, c.requires.sink_counts)
+    let empty : length c.args.writer.now.out.waiting ≡ 0 = ap (λ (bytes : List ℕ). length bytes) c.requires.new.empty in
+    omega (arith, few, lines, size, empty, c.requires.sink_counts)
 
 pub returns-clause-cut_short : goal.returns-clause-cut_short
 returns-clause-cut_short g c =
     let script = c.args.script.now in
-    let old = g.K.Sink.gone c.args.writer.now.sink.now in
-    let new = g.K.Sink.gone c.begin.new.self.sink.now in
+    let old = c.args.writer.now.out.gone in
+    let new = c.begin.new.self.out.gone in
     let events = reverse (driven_trace script) in
     on_err_weaker c.begin.result
     (λ front.
@@ -38,8 +40,9 @@ returns-clause-counts g c =
     let few = few_lines 0 script.setup.lines script.opening (omega arith) c.opening.ensures.script.opening.ascending c.opening.ensures.script.opening_lines in
     let size : length c.opening.result.now ≡ length script.opening = ap (λ (pairs : List (Line × Bytes64)). length pairs) c.opening.ensures.opening in
     let low = c.requires.sink_counts in
+    let empty : length c.args.writer.now.out.waiting ≡ 0 = ap (λ (bytes : List ℕ). length bytes) c.requires.new.empty in
     on_ok_weaker c.begin.result
     (λ bound.
-    let b : reach (g.K.Sink.highest_count c.begin.new.self.sink.now) c.begin.new.self.waiting.items ≤ g.K.Sink.highest_count c.args.writer.now.sink.now + begin_cost c.opening.result.now = bound in
-    omega (arith, few, lines, size, low, b))
-    c.begin.ensures.counts
+    let b : reach c.begin.new.self.out ≤ reach c.args.writer.now.out + begin_cost c.opening.result.now = bound in
+    omega (arith, few, lines, size, low, empty, b))
+    c.begin.ensures.kept.reached

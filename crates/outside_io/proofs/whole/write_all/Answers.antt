@@ -15,7 +15,7 @@ loop-gone-preserved g c =
     record {
       in_range = omega (arith, before.in_range, write.within);
       went = Appends-take _ _ _ bytes _ gone c.in-Ok.count before.went write.bytes rest;
-      faults = omega (arith, before.faults, write.cause.later);
+      faults = write.cause.kept ∙ before.faults;
       counts = record {
         later = omega (arith, before.counts.later, write.counts.later);
         bound = omega (arith, before.counts.bound, write.counts.bound);

@@ -11,4 +11,4 @@ returns-clause-items c = traces_are_read
 pub returns-clause-fault : goal.returns-clause-fault
 returns-clause-fault c bytes setup opening events fault trace has =
     let read = traces_are_read bytes setup opening events trace in
-    ended_no_fault (says_once c.one_answer.ensures.headers c.one_answer.ensures.openings c.one_answer.ensures.events c.one_answer.ensures.ends) bytes (trace_items setup opening events) _ fault read.0 read.1 has
+    ended_no_fault (says_once c.one_answer.ensures.headers c.one_answer.ensures.openings c.one_answer.ensures.events c.one_answer.ensures.ends) bytes (trace_items setup opening events) _ fault read.read read.ended has

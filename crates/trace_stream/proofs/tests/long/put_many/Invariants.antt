@@ -1,0 +1,11 @@
+use Rattle.std.proofs.Common.{◌≡◌, ◌+◌, ◌*◌, ◌<◌}
+use Rattle.trace_stream.specs.Buffers.{reach}
+use Rattle.trace_stream.specs.declared.progress.Progress.{Progress}
+use Rattle.trace_stream.proofs.tests.long.put_many.Given as goal
+
+abbrev pub invariant-loop : goal.invariant-loop
+invariant-loop g l = record {
+  begun : l.writer.progress ≡ Progress.Begun;
+  count : l.writer.count ≡ l.counter;
+  counts : reach l.writer.out < 1300 + 800 * l.counter;
+}

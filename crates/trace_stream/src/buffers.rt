@@ -1,0 +1,197 @@
+// The bytes that wait for a sink, and the records that are put behind them.
+ghost use Rattle.std.specs.Prelude.{◌≡◌, ◌+◌, ◌*◌, ◌^◌, ◌<◌, ◌≤◌, [], length, IsTrue, OnErr, OnOk};
+ghost use Rattle.std.specs.List.{flat_map, AllByRecursion};
+ghost use Rattle.cxl_message.specs.Formed.{well_formed as is_well_formed};
+ghost use Rattle.cxl_message.specs.Opening.{IsOpening, opening_fits};
+ghost use Rattle.cxl_codec.specs.EndRecord.{EndFits};
+ghost use Rattle.cxl_codec.specs.Events.{EventFits};
+ghost use Rattle.cxl_codec.specs.Openings.{OpeningFits};
+ghost use Rattle.cxl_codec.specs.Traces.{end_bytes, event_bytes, header_bytes, opening_bytes};
+ghost use Rattle.cxl_codec.specs.VersionOne.{HeaderFits, fits_version_one, setup_fits_version_one};
+ghost use Rattle.trace_stream.specs.Buffers.{Gathers, GathersFront, Keeps, empty_buffer, full, reach};
+ghost use Rattle.trace_stream.specs.Writing.{begin_bytes, begin_cost, end_cost, event_cost};
+
+use crate::refusals::TraceWriteRefusal;
+use cxl_codec::{encode_end, encode_event, encode_header, encode_opening};
+use cxl_message::{Bytes64, Event, Line, Opening, Setup};
+use outside_io::{Sink, write_all};
+use std::alloc::{AllocError, Global};
+use std::marker::Model;
+
+/// How many bytes wait where all of them are written.
+const FULL: usize = 65000;
+
+/// A sink that was lent, with the bytes that wait for it. A contract sees which sink it is, what has gone to it, its
+/// faults, its highest count and what waits.
+#[derive(Drop)]
+pub struct Buffered<'a, K: Sink> {
+    sink: &'a mut K,
+    waiting: Vec<u8>,
+}
+
+impl<'a, K: Sink> Model for Buffered<'a, K> {
+    ghost use Rattle.trace_stream.specs.Buffers.{Buffer};
+
+    ghost Value = { Buffer };
+
+    ghost view = { λ b. record { sink = b.sink.ghost_name; gone = K.gone b.sink.now; faults = K.faults b.sink.now; highest = K.highest_count b.sink.now; waiting = b.waiting.items } };
+}
+
+impl<'a, K: Sink> Buffered<'a, K> {
+    /// A sink for which nothing waits.
+    pub fn new(alloc: Global, sink: &'a mut K) -> Buffered<'a, K>
+        ensures { result ≡ empty_buffer sink.entry.ghost_name (K.gone sink.old) (K.faults sink.old) (K.highest_count sink.old) }
+    {
+        Buffered {
+            sink,
+            waiting: Vec::new(alloc),
+        }
+    }
+
+    /// The sink. What waits is lost.
+    pub fn into_sink(self) -> &'a mut K
+        ensures same_sink { result.ghost_name ≡ self.entry.sink }
+        ensures gone { K.gone result.now ≡ self.entry.gone }
+        ensures faults { K.faults result.now ≡ self.entry.faults }
+        ensures highest { K.highest_count result.now ≡ self.entry.highest }
+    {
+        let Buffered { sink, waiting: _ } = self;
+        sink
+    }
+
+    /// Asks for the memory in which bytes wait.
+    pub fn reserve(&mut self) -> Result<(), AllocError>
+        ensures { self.new ≡ self.old }
+    {
+        self.waiting.try_reserve(FULL)
+    }
+
+    /// Puts the header of a setup of at most 64 tags and the openings, which name only lines of the setup.
+    pub fn put_begin(&mut self, setup: &Setup, opening: &Opening) -> Result<(), TraceWriteRefusal>
+        requires version_one { IsTrue (setup_fits_version_one setup.now) }
+        requires lines { IsTrue (opening_fits setup.now.lines opening.now) }
+        requires empty { self.old.waiting ≡ [] }
+        requires counts { reach self.old + begin_cost opening.now < 2 ^ 63 }
+
+        ensures put { OnOk result (Gathers self.old self.new (begin_bytes setup.now opening.now)) }
+        ensures front { OnErr result (GathersFront self.old self.new (begin_bytes setup.now opening.now)) }
+        ensures limits { HeaderFits setup.now }
+        ensures ascending { OnOk result (IsOpening opening.now) }
+        ensures fits { OnOk result (AllByRecursion OpeningFits opening.now) }
+        ensures bounded { OnOk result (length self.new.waiting < full) }
+        ensures kept { Keeps self.old self.new (begin_cost opening.now) result }
+    {
+        self.put_header(setup)?;
+        self.put_openings(opening.pairs())
+    }
+
+    /// Puts the header of a setup of at most 64 tags.
+    fn put_header(&mut self, setup: &Setup) -> Result<(), TraceWriteRefusal>
+        requires version_one { IsTrue (setup_fits_version_one setup.now) }
+
+        ensures put { OnOk result (Gathers self.old self.new (header_bytes setup.now)) }
+        ensures front { OnErr result (GathersFront self.old self.new (header_bytes setup.now)) }
+        ensures limits { HeaderFits setup.now }
+        ensures short { OnOk result (length self.new.waiting ≤ length self.old.waiting + 100) }
+        ensures kept { Keeps self.old self.new 200 result }
+    {
+        encode_header(setup, &mut self.waiting)?;
+        Ok(())
+    }
+
+    /// Puts the opening records of these lines, each below 65,536.
+    fn put_openings(&mut self, pairs: &[(Line, Bytes64)]) -> Result<(), TraceWriteRefusal>
+        requires lines { IsTrue (opening_fits 65536 pairs.now) }
+        requires bounded { length self.old.waiting < full }
+        requires counts { reach self.old + 140 * length pairs.now < 2 ^ 63 }
+
+        ensures put { OnOk result (Gathers self.old self.new (flat_map opening_bytes pairs.now)) }
+        ensures front { OnErr result (GathersFront self.old self.new (flat_map opening_bytes pairs.now)) }
+        ensures fits { OnOk result (AllByRecursion OpeningFits pairs.now) }
+        ensures bounded { OnOk result (length self.new.waiting < full) }
+        ensures kept { Keeps self.old self.new (140 * length pairs.now) result }
+    {
+        for (line, bytes) in pairs {
+            self.put_opening(*line, bytes)?;
+        }
+        Ok(())
+    }
+
+    /// Puts the opening record of a line, which is below 65,536.
+    fn put_opening(&mut self, line: Line, bytes: &Bytes64) -> Result<(), TraceWriteRefusal>
+        requires line { line.0 < 65536 }
+        requires counts { reach self.old + 140 < 2 ^ 63 }
+
+        ensures put { OnOk result (Gathers self.old self.new (opening_bytes (line, bytes.now))) }
+        ensures front { OnErr result (GathersFront self.old self.new (opening_bytes (line, bytes.now))) }
+        ensures fits { OnOk result (OpeningFits (line, bytes.now)) }
+        ensures bounded { OnOk result (length self.new.waiting < full) }
+        ensures kept { Keeps self.old self.new 140 result }
+    {
+        encode_opening(line, bytes, &mut self.waiting)?;
+        self.drain()
+    }
+
+    /// Puts the record of an event, which is well formed and whose Tags are below 65,536.
+    pub fn put_event(&mut self, event: &Event) -> Result<(), TraceWriteRefusal>
+        requires formed { IsTrue (is_well_formed event.now) }
+        requires version_one { IsTrue (fits_version_one event.now) }
+        requires counts { reach self.old + event_cost < 2 ^ 63 }
+
+        ensures put { OnOk result (Gathers self.old self.new (event_bytes event.now)) }
+        ensures front { OnErr result (GathersFront self.old self.new (event_bytes event.now)) }
+        ensures fits { OnOk result (EventFits event.now) }
+        ensures bounded { OnOk result (length self.new.waiting < full) }
+        ensures kept { Keeps self.old self.new event_cost result }
+    {
+        encode_event(event, &mut self.waiting)?;
+        self.drain()
+    }
+
+    /// Puts the end record, and writes all that waits.
+    pub fn put_end(&mut self, count: u64) -> Result<(), TraceWriteRefusal>
+        requires counts { reach self.old + end_cost < 2 ^ 63 }
+
+        ensures put { OnOk result (Gathers self.old self.new (end_bytes count)) }
+        ensures front { OnErr result (GathersFront self.old self.new (end_bytes count)) }
+        ensures fits { EndFits count }
+        ensures all { OnOk result (self.new.waiting ≡ []) }
+        ensures kept { Keeps self.old self.new end_cost result }
+    {
+        encode_end(count, &mut self.waiting)?;
+        self.flush()
+    }
+
+    /// Writes all that waits, if it is so much that no more is to wait.
+    fn drain(&mut self) -> Result<(), TraceWriteRefusal>
+        requires counts { reach self.old + 1 < 2 ^ 63 }
+
+        ensures put { OnOk result (Gathers self.old self.new []) }
+        ensures front { OnErr result (GathersFront self.old self.new []) }
+        ensures bounded { OnOk result (length self.new.waiting < full) }
+        ensures kept { Keeps self.old self.new 1 result }
+    {
+        if self.waiting.len() < FULL {
+            return Ok(());
+        }
+        self.flush()
+    }
+
+    /// Writes all that waits.
+    fn flush(&mut self) -> Result<(), TraceWriteRefusal>
+        requires counts { reach self.old + 1 < 2 ^ 63 }
+
+        ensures put { OnOk result (Gathers self.old self.new []) }
+        ensures front { OnErr result (GathersFront self.old self.new []) }
+        ensures all { OnOk result (self.new.waiting ≡ []) }
+        ensures kept { Keeps self.old self.new 1 result }
+    {
+        match write_all(self.sink, &self.waiting) {
+            Ok(()) => {
+                self.waiting.clear();
+                Ok(())
+            }
+            Err(_) => Err(TraceWriteRefusal::WriteFault),
+        }
+    }
+}
