@@ -1,0 +1,9 @@
+pub mod View
+pub mod ViewRows
+pub mod ViewAnswers
+pub mod Tables
+pub mod Ways
+pub mod HostRecord
+pub mod HostChanges
+pub mod Stands
+pub mod Laws
