@@ -1,0 +1,17 @@
+pub mod Sparse
+pub mod Tables
+pub mod Record
+pub mod Kept
+pub mod Opened
+pub mod Stands
+pub mod Answers
+pub mod RowChanges
+pub mod ReservationChanges
+pub mod TaskChanges
+pub mod BufferChanges
+pub mod CreditChanges
+pub mod Changes
+pub mod Acts
+pub mod Counts
+pub mod Weights
+pub mod Steady
