@@ -1,0 +1,5 @@
+pub mod Sums
+pub mod Regions
+pub mod Removing
+pub mod Serving
+pub mod Opened

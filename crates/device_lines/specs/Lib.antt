@@ -1,0 +1,4 @@
+pub mod Buffered
+pub mod Lines
+pub mod Region
+pub mod Filled

@@ -1,0 +1,4 @@
+pub mod Waiting
+pub mod Changing
+pub mod Crediting
+pub mod Tasks
