@@ -17,7 +17,7 @@ use Rattle.coherence_model.specs.Runs.{IsRun, is_allowed, is_run}
 use Rattle.coherence_model.specs.Words.{with_last}
 use Rattle.coherence_lemmas.proofs.Allowed.{allowed_parts}
 use Rattle.coherence_lemmas.proofs.Flight.{taken_is_there}
-use Rattle.coherence_lemmas.proofs.Messages.{same-message_eq}
+use Rattle.cxl_message.proofs.SameMessages.{same-message_eq}
 use Rattle.coherence_lemmas.proofs.Queues.{length-without_taken}
 use Rattle.run_laws.specs.Laws.{OldestMayBeTaken, RestIsInFlight}
 

@@ -17,6 +17,14 @@ ghost use Rattle.run_laws.specs.Laws.{
   RunGoesOn,
   SenderSentAll,
 };
+ghost use Rattle.run_laws.specs.OwnEvents.{
+  EventsOfAppend,
+  HistoryOfAppend,
+  OthersLeaveNumbers,
+  RunHasAgents,
+  SameNumbersMeanOthers,
+  SameOwnMeansOthers,
+};
 
 /// The empty trace is a run. A run goes on exactly by an allowed event, and a front of a run is a run: a run's events in the
 /// order in which they happened, without the last ones (own rule).
@@ -47,6 +55,25 @@ pub fn others_keep_allowed()
 pub fn own_events_are_numbered()
     ensures events { NumberedAreOwn }
     ensures places { NumbersArePlaces }
+{}
+
+/// Other agents' events leave an agent's numbered events as they were, and where its events, or its numbered events, are as they
+/// were, only other agents' events came (own rule).
+pub fn own_events_stay()
+    ensures numbers { OthersLeaveNumbers }
+    ensures same_events { SameOwnMeansOthers }
+    ensures same_numbers { SameNumbersMeanOthers }
+{}
+
+/// Where a trace goes on, an agent's events and the commits are the later ones after the earlier ones (own rule).
+pub fn traces_go_on()
+    ensures events { EventsOfAppend }
+    ensures history { HistoryOfAppend }
+{}
+
+/// The agent of each event of a run is the device or a host of the setup (own rule).
+pub fn events_have_agents()
+    ensures { RunHasAgents }
 {}
 
 /// After a run, what was sent on a channel is what its sender sent there, and what was taken from it is what its receiver took,

@@ -1,0 +1,45 @@
+// Events of hosts that load lines of their own: host 0 line 0, and host 1 line 1.
+ghost use Rattle.std.specs.Prelude.{IsTrue, ◌≡◌};
+ghost use Rattle.board_trial.specs.Trial.{is_operation};
+
+use cxl_message::{Bytes64, Cause, Commit, Event, Line, Op, Sends};
+
+pub const ZEROS: Bytes64 = Bytes64([0; 64]);
+
+/// The operation of a host's own stream that loads the host's own line.
+pub fn load(host: u8, index: u32) -> Cause
+    ensures { IsTrue (is_operation result) }
+{
+    Cause::Op {
+        stream: host,
+        index,
+        op: Op::Load {
+            line: Line(u32::from(host)),
+        },
+    }
+}
+
+/// The commit of that operation, where the line is as it was opened.
+pub fn loaded(host: u8, index: u32) -> Commit {
+    Commit {
+        stream: host,
+        index,
+        op: Op::Load {
+            line: Line(u32::from(host)),
+        },
+        value: ZEROS,
+    }
+}
+
+/// The event of a load that hits.
+pub fn hit(host: u8, index: u32) -> Event
+    ensures agent { result.agent ≡ host }
+    ensures operation { IsTrue (is_operation result.cause) }
+{
+    Event {
+        agent: host,
+        cause: load(host, index),
+        sends: Sends::Nothing,
+        commit: Some(loaded(host, index)),
+    }
+}

@@ -1,0 +1,9 @@
+pub mod Fronts
+pub mod Totals
+pub mod Views
+pub mod Opens
+pub mod Marks
+pub mod Meets
+pub mod Closes
+pub mod Values
+pub mod SeatLists

@@ -1,0 +1,23 @@
+// What a board is opened with, and the rule of its word.
+use crate::view::View;
+use atomic_table::TableRule;
+use cxl_message::{Opening, Setup};
+use std::snapshot::Snapshot;
+
+// The setup and the opening of the board's runs, and how many events each agent may make.
+#[derive(Drop)]
+pub struct BoardKey {
+    pub setup: Setup,
+    pub opening: Snapshot<Opening>,
+    pub room: u32,
+}
+
+pub struct BoardRule;
+
+impl TableRule<(), View, BoardKey> for BoardRule {
+    ghost use Rattle.fabric_rule.specs.Board.{KeepsOneRun, device_view};
+
+    ghost holds = { λ k. KeepsOneRun k.setup k.opening.value k.room };
+
+    ghost first = { λ _. device_view 0 };
+}
