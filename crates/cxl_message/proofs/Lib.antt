@@ -1,4 +1,5 @@
 pub mod Ascending
+mod NamesAdded
 pub mod SameNames
 pub mod SameMessages
 pub mod SameEvents

@@ -2,6 +2,7 @@
 use Rattle.std.specs.Prelude.{Bool, true, false, ◌&&◌, nat_lt, nat_le}
 use Rattle.std.specs.List.{list_all}
 use Rattle.std.specs.Option.{option_map_or}
+use Rattle.cxl_message.specs.declared.limits.TheConstants.{DEVICE, MAX_HOSTS, MAX_SPAN, MAX_STREAMS, PLACES}
 use Rattle.cxl_message.specs.declared.opcodes.SnpOp.{SnpOp}
 use Rattle.cxl_message.specs.declared.opcodes.Span.{Span}
 use Rattle.cxl_message.specs.declared.messages.Message.{Message}
@@ -37,16 +38,16 @@ abbrev pub message_formed : Message → Bool
 message_formed (Message.Req op meta snp tag line) = true
 message_formed (Message.MemWr meta snp tag line bytes) = true
 message_formed (Message.BiConflict tag) = true
-message_formed (Message.BiRsp op bitag low) = nat_lt low 4
+message_formed (Message.BiRsp op bitag low) = nat_lt low MAX_SPAN
 message_formed (Message.Ndr op tag) = true
 message_formed (Message.MemData tag bytes) = true
 message_formed (Message.BiSnp op bitag line span) = span_fits (is_block_snoop op) span
 message_formed (Message.Credit channel) = has_credits channel
 
--- the place of a Word is one of the eight of its line
+-- the place of a Word is one of those of its line
 abbrev pub place_exists : Op → Bool
 place_exists (Op.Load _) = true
-place_exists (Op.Word _ place _) = nat_lt place 8
+place_exists (Op.Word _ place _) = nat_lt place PLACES
 place_exists (Op.Whole _ _) = true
 
 -- the host and the channel of an act are such as a record can have
@@ -56,28 +57,28 @@ act_formed (Act.WriteBack line) = true
 act_formed (Act.Answer line) = true
 act_formed (Act.AnswerBlock line) = true
 act_formed (Act.HostReturn channel) = has_credits channel
-act_formed (Act.Serve host tag) = nat_lt host 16
-act_formed (Act.Clean host tag) = nat_lt host 16
-act_formed (Act.Start host tag) = nat_lt host 16
-act_formed (Act.Evict host tag) = nat_lt host 16
-act_formed (Act.Snoop host line) = nat_lt host 16
+act_formed (Act.Serve host tag) = nat_lt host MAX_HOSTS
+act_formed (Act.Clean host tag) = nat_lt host MAX_HOSTS
+act_formed (Act.Start host tag) = nat_lt host MAX_HOSTS
+act_formed (Act.Evict host tag) = nat_lt host MAX_HOSTS
+act_formed (Act.Snoop host line) = nat_lt host MAX_HOSTS
 act_formed (Act.Finish line) = true
-act_formed (Act.DeviceReturn host channel) = nat_lt host 16 && has_credits channel
+act_formed (Act.DeviceReturn host channel) = nat_lt host MAX_HOSTS && has_credits channel
 
 -- the numbers of a cause are such as a record can have
 abbrev pub cause_formed : Cause → Bool
-cause_formed (Cause.Op stream index op) = nat_lt stream 64 && place_exists op
-cause_formed (Cause.Take host message) = nat_lt host 16 && message_formed message
+cause_formed (Cause.Op stream index op) = nat_lt stream MAX_STREAMS && place_exists op
+cause_formed (Cause.Take host message) = nat_lt host MAX_HOSTS && message_formed message
 cause_formed (Cause.Act act) = act_formed act
 
 -- the numbers of a sent message are such as a record can have
 abbrev pub out_formed : Out → Bool
-out_formed o = nat_lt o.host 16 && message_formed o.message
+out_formed o = nat_lt o.host MAX_HOSTS && message_formed o.message
 
 -- the numbers of a commit are such as a record can have
 abbrev pub commit_formed : Commit → Bool
-commit_formed c = nat_lt c.stream 64 && place_exists c.op
+commit_formed c = nat_lt c.stream MAX_STREAMS && place_exists c.op
 
--- the numbers of an event are such as a record can have; agent 16 is the device
+-- the numbers of an event are such as a record can have; the last agent is the device
 abbrev pub well_formed : Event → Bool
-well_formed e = nat_le e.agent 16 && cause_formed e.cause && list_all out_formed (outs e.sends) && option_map_or commit_formed e.commit true
+well_formed e = nat_le e.agent DEVICE && cause_formed e.cause && list_all out_formed (outs e.sends) && option_map_or commit_formed e.commit true

@@ -9,6 +9,7 @@ pub mod Profile
 pub mod Formed
 pub mod Setup
 pub mod Opening
+pub mod Names
 pub mod Equality
 pub mod Padding
 pub mod Places

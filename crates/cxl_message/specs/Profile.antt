@@ -1,5 +1,6 @@
 -- Which messages are in the profile.
 use Rattle.std.specs.Prelude.{ℕ, Bool, true, false, ◌&&◌, ◌==◌, nat_lt}
+use Rattle.cxl_message.specs.declared.limits.TheConstants.{MAX_SPAN}
 use Rattle.cxl_message.specs.declared.opcodes.Meta.{Meta}
 use Rattle.cxl_message.specs.declared.opcodes.SnpType.{SnpType}
 use Rattle.cxl_message.specs.declared.opcodes.ReqOp.{ReqOp}
@@ -25,8 +26,8 @@ write_in_profile _ _ = false
 
 -- the answers to snoops that may be sent (CXL 3.1, ch. 3: BIRspI, BIRspS and BIRspIBlk; own rule: `low`)
 abbrev pub response_in_profile : RspOp → ℕ → Bool
-response_in_profile RspOp.I low = nat_lt low 4
-response_in_profile RspOp.S low = nat_lt low 4
+response_in_profile RspOp.I low = nat_lt low MAX_SPAN
+response_in_profile RspOp.S low = nat_lt low MAX_SPAN
 response_in_profile RspOp.E low = false
 response_in_profile RspOp.IBlk low = low == 0
 response_in_profile RspOp.SBlk low = false

@@ -6,7 +6,7 @@ ghost use Rattle.cxl_message.specs.Events.{outs};
 ghost use Rattle.cxl_message.specs.Formed.{is_block_snoop as is_block_opcode, span_fits as opcode_span_fits, message_formed as is_message_formed, act_formed as is_act_formed, cause_formed as is_cause_formed, out_formed as is_out_formed, commit_formed as is_commit_formed, well_formed as is_well_formed};
 
 use crate::events::{Act, Cause, Commit, Event, Out, Sends};
-use crate::limits::{DEVICE, MAX_HOSTS, MAX_STREAMS};
+use crate::limits::{DEVICE, MAX_HOSTS, MAX_SPAN, MAX_STREAMS};
 use crate::messages::Message;
 use crate::opcodes::{SnpOp, Span};
 
@@ -66,7 +66,7 @@ fn message_formed(message: &Message) -> bool
     ensures { result ≡ is_message_formed message.now }
 {
     match message {
-        Message::BiRsp { low, .. } => *low < 4,
+        Message::BiRsp { low, .. } => *low < MAX_SPAN,
         Message::BiSnp { op, span, .. } => span_fits(is_block_snoop(*op), *span),
         Message::Credit { channel } => channel.has_credits(),
         Message::Req { .. } => true,

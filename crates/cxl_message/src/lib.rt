@@ -13,6 +13,7 @@ mod formed;
 mod identifiers;
 mod limits;
 mod messages;
+mod names;
 mod opcodes;
 mod openings;
 mod operations;
@@ -31,10 +32,11 @@ pub use events::{Act, Cause, Commit, Event, Op, Out, Sends};
 pub use formed::{cause_formed, well_formed};
 pub use identifiers::{BiTag, Bytes64, Line, Tag};
 pub use limits::{
-    DEVICE, MAX_CREDITS, MAX_ENTRIES, MAX_HOSTS, MAX_LINES, MAX_STREAMS, MAX_TAGS, MAX_WAYS,
-    MIN_CREDITS, MIN_TAGS, PLACES,
+    DEVICE, MAX_CREDITS, MAX_ENTRIES, MAX_HOSTS, MAX_LINES, MAX_NAME_LEN, MAX_SPAN, MAX_STREAMS,
+    MAX_TAGS, MAX_WAYS, MIN_CREDITS, MIN_TAGS, PLACES,
 };
 pub use messages::Message;
+pub use names::{NameRefusal, Names, is_name, is_name_byte};
 pub use opcodes::{Meta, NdrOp, ReqOp, RspOp, SnpOp, SnpType, Span};
 pub use openings::{Opening, OpeningRefusal};
 pub use profile::in_profile;

@@ -22,3 +22,7 @@ pub const MAX_STREAMS: u8 = 64;
 pub const DEVICE: u8 = 16;
 /// A Word names one of this many places of its line.
 pub const PLACES: u8 = 8;
+/// A block has at most this many lines, and the low bits of a line's address within one are below it.
+pub const MAX_SPAN: u8 = 4;
+/// A name of a stream has 1 to this many bytes.
+pub const MAX_NAME_LEN: u8 = 32;

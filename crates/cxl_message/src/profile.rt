@@ -2,6 +2,7 @@
 ghost use Rattle.std.specs.Prelude.{◌≡◌};
 ghost use Rattle.cxl_message.specs.Profile.{in_profile as is_in_profile, request_in_profile as is_request_in_profile, write_in_profile as is_write_in_profile, response_in_profile as is_response_in_profile, snoop_in_profile as is_snoop_in_profile};
 
+use crate::limits::MAX_SPAN;
 use crate::messages::Message;
 use crate::opcodes::{Meta, ReqOp, RspOp, SnpOp, SnpType, Span};
 
@@ -56,7 +57,7 @@ fn response_in_profile(op: RspOp, low: u8) -> bool
     ensures { result ≡ is_response_in_profile op low }
 {
     match op {
-        RspOp::I | RspOp::S => low < 4,
+        RspOp::I | RspOp::S => low < MAX_SPAN,
         RspOp::IBlk => low == 0,
         RspOp::E | RspOp::SBlk | RspOp::EBlk => false,
     }

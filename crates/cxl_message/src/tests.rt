@@ -1,4 +1,5 @@
 // What the contracts leave to examples: each public call on its happy path, and the limits as a person knows them.
+mod names;
 mod profile;
 mod values;
 
