@@ -1,12 +1,9 @@
 // Rounds over one buffer of mixed event records, each group of eleven as in `bench_events`.
-ghost use Rattle.std.specs.Prelude.{◌≡◌};
-
 use bench_events::{
-    answered, asked, begun, committed, conflicted, granted, group, returned, snooped, started,
-    stored, written,
+    answered, asked, begun, committed, conflicted, granted, group, returned, room_of, snooped,
+    started, stored, written,
 };
 use cxl_codec::{decode_room, encode_room};
-use cxl_message::Event;
 use event_room::{EventRoom, SendsRef};
 use std::alloc::{AllocError, Global};
 
@@ -88,15 +85,6 @@ pub fn run(alloc: Global, work: Work, groups: u32, rounds: u32) -> Result<Tally,
         .zip(&group())
         .all(|(room, event)| room.event() == *event);
     Ok(tally)
-}
-
-/// The event in a room of its own.
-fn room_of(event: &Event) -> EventRoom
-    ensures { result ≡ event.now }
-{
-    let mut room = EventRoom::new();
-    room.set(event);
-    room
 }
 
 /// Appends so many groups of records.

@@ -10,12 +10,6 @@ pub mod FileReads
 pub mod Meanings
 pub mod OneAnswer
 pub mod TraceReads
-pub mod Scanning
-pub mod Follows
-pub mod ScanFields
-pub mod ScanReads
-pub mod ScanBehind
-pub mod ScanRoom
 pub mod ZeroRuns
 pub mod RoomReads
 pub mod Puts

@@ -13,5 +13,4 @@ pub mod Refusals
 pub mod Reading
 pub mod ReadingEvents
 pub mod ReadingFiles
-pub mod Scanning
 pub mod ReadingRooms

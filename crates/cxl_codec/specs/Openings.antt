@@ -1,5 +1,5 @@
 -- The opening records of a trace. Every rule here is an own rule.
-use Rattle.std.specs.Prelude.{ℕ, List, [], ◌==◌, if◌then◌else◌, ◌∷◌, ◌++◌, ◌<◌, ◌^◌, ◌≡◌, All, length}
+use Rattle.std.specs.Prelude.{ℕ, List, ◌∷◌, ◌++◌, ◌<◌, ◌^◌, ◌≡◌, All, length}
 use Rattle.std.specs.Int.{w16}
 use Rattle.cxl_message.specs.declared.identifiers.Line.{Line}
 use Rattle.cxl_message.specs.declared.identifiers.Bytes64.{Bytes64}
@@ -19,8 +19,3 @@ opening_cells opened = field FieldName.Agent 0xf0 ∷ number w16 opened.0.0 ++ p
 pub record OpeningFits (opened : Line × Bytes64) : Type 0 where
   pub line : opened.0.0 < 2 ^ 16
   pub bytes : IsPayload opened.1
-
--- how many bytes a record has that begins so, if it is an opening
-abbrev pub opening_length : List ℕ → ℕ
-opening_length [] = 0
-opening_length (byte ∷ bytes) = if byte == 0xf0 then 67 else 0

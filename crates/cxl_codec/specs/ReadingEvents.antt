@@ -1,5 +1,5 @@
 -- Reading what is inside an event record. No public clause cites this file.
-use Rattle.std.specs.Prelude.{ℕ, zero, suc, ◌==◌, List, Option, Some, None, Ok, find}
+use Rattle.std.specs.Prelude.{ℕ, zero, suc, ◌==◌, List, Option, Some, None, Ok, find, ◌-◌}
 use Rattle.std.specs.Int.{w16, w32, w64}
 use Rattle.cxl_message.specs.declared.identifiers.Line.{Line}
 use Rattle.cxl_message.specs.declared.messages.Message.{Message}
@@ -20,6 +20,7 @@ use Rattle.cxl_message.specs.declared.identifiers.Tag.{Tag}
 use Rattle.cxl_codec.specs.declared.kinds.MessageKind.{MessageKind}
 use Rattle.cxl_codec.specs.Kinds.{cause_kind_code, cause_kinds, op_kind_code, op_kinds, act_kind_code, act_kinds, message_kind_code, message_kinds}
 use Rattle.cxl_codec.specs.Reading.{Read, ◌>>=◌, kind_of, field_of, within, number_at, payload_at, run_at, meta_at, snoop_type_at, channel_at, span_at}
+use Rattle.cxl_message.specs.declared.limits.TheConstants.{DEVICE, MAX_HOSTS, MAX_SPAN, MAX_STREAMS, PLACES}
 
 -- the fields of a message of this kind
 unfoldable pub message_fields_at : MessageKind → List ℕ → Read Message
@@ -42,7 +43,7 @@ message_fields_at MessageKind.BiConflict bytes = do
   Ok (Message.BiConflict (record { 0 = tag.0 }), zeros.1)
 message_fields_at (MessageKind.BiRsp op) bytes = do
   bitag ← number_at w16 bytes
-  low ← field_of FieldName.LowAddr (within 0 3) bitag.1
+  low ← field_of FieldName.LowAddr (within 0 (MAX_SPAN - 1)) bitag.1
   Ok (Message.BiRsp op (record { 0 = bitag.0 }) low.0, low.1)
 message_fields_at (MessageKind.Ndr op) bytes = do
   tag ← number_at w16 bytes
@@ -73,7 +74,7 @@ op_fields_at OpKind.Load bytes = do
   Ok (Op.Load (record { 0 = line.0 }), line.1)
 op_fields_at OpKind.Word bytes = do
   line ← number_at w32 bytes
-  place ← field_of FieldName.Place (within 0 7) line.1
+  place ← field_of FieldName.Place (within 0 (PLACES - 1)) line.1
   value ← number_at w64 place.1
   Ok (Op.Word (record { 0 = line.0 }) place.0 value.0, value.1)
 op_fields_at OpKind.Whole bytes = do
@@ -108,18 +109,18 @@ act_fields_at (ActKind.Line kind) bytes = do
   line ← number_at w32 bytes
   Ok (line_act kind (record { 0 = line.0 }), line.1)
 act_fields_at (ActKind.Tagged kind) bytes = do
-  host ← field_of FieldName.Host (within 0 15) bytes
+  host ← field_of FieldName.Host (within 0 (MAX_HOSTS - 1)) bytes
   tag ← number_at w16 host.1
   Ok (tagged_act kind host.0 (record { 0 = tag.0 }), tag.1)
 act_fields_at ActKind.HostReturn bytes = do
   channel ← channel_at bytes
   Ok (Act.HostReturn channel.0, channel.1)
 act_fields_at ActKind.Snoop bytes = do
-  host ← field_of FieldName.Host (within 0 15) bytes
+  host ← field_of FieldName.Host (within 0 (MAX_HOSTS - 1)) bytes
   line ← number_at w32 host.1
   Ok (Act.Snoop host.0 (record { 0 = line.0 }), line.1)
 act_fields_at ActKind.DeviceReturn bytes = do
-  host ← field_of FieldName.Host (within 0 15) bytes
+  host ← field_of FieldName.Host (within 0 (MAX_HOSTS - 1)) bytes
   channel ← channel_at host.1
   Ok (Act.DeviceReturn host.0 channel.0, channel.1)
 
@@ -132,12 +133,12 @@ act_at bytes = do
 -- the fields of a cause of this kind
 unfoldable pub cause_fields_at : CauseKind → List ℕ → Read Cause
 cause_fields_at CauseKind.Op bytes = do
-  stream ← field_of FieldName.Stream (within 0 63) bytes
+  stream ← field_of FieldName.Stream (within 0 (MAX_STREAMS - 1)) bytes
   index ← number_at w32 stream.1
   op ← op_at index.1
   Ok (Cause.Op stream.0 index.0 op.0, op.1)
 cause_fields_at CauseKind.Take bytes = do
-  host ← field_of FieldName.Host (within 0 15) bytes
+  host ← field_of FieldName.Host (within 0 (MAX_HOSTS - 1)) bytes
   message ← message_at host.1
   Ok (Cause.Take host.0 message.0, message.1)
 cause_fields_at CauseKind.Act bytes = do
@@ -153,7 +154,7 @@ cause_at bytes = do
 -- a sent message
 unfoldable pub out_at : List ℕ → Read Out
 out_at bytes = do
-  host ← field_of FieldName.Host (within 0 15) bytes
+  host ← field_of FieldName.Host (within 0 (MAX_HOSTS - 1)) bytes
   message ← message_at host.1
   Ok (record { host = host.0; message = message.0 }, message.1)
 
@@ -178,7 +179,7 @@ sends_at bytes = do
 unfoldable pub flagged_at : ℕ → List ℕ → Read (Option Commit)
 flagged_at zero bytes = Ok (None, bytes)
 flagged_at (suc n) bytes = do
-  stream ← field_of FieldName.Stream (within 0 63) bytes
+  stream ← field_of FieldName.Stream (within 0 (MAX_STREAMS - 1)) bytes
   index ← number_at w32 stream.1
   op ← op_at index.1
   value ← payload_at op.1
@@ -193,7 +194,7 @@ commit_at bytes = do
 -- an event
 unfoldable pub event_at : List ℕ → Read Event
 event_at bytes = do
-  agent ← field_of FieldName.Agent (within 0 16) bytes
+  agent ← field_of FieldName.Agent (within 0 DEVICE) bytes
   cause ← cause_at agent.1
   sends ← sends_at cause.1
   commit ← commit_at sends.1

@@ -7,6 +7,8 @@ use Rattle.cxl_message.specs.Setup.{Configuration}
 use Rattle.cxl_codec.specs.declared.fields.FieldName.{FieldName}
 use Rattle.std.specs.Prelude.{◌+◌, ◌*◌}
 use Rattle.cxl_codec.specs.Reading.{Read, ◌>>=◌, field_of, within, number_at, free_at, payload_at, run_at}
+use Rattle.cxl_message.specs.declared.limits.TheConstants.{MAX_CREDITS, MAX_HOSTS, MAX_STREAMS, MIN_CREDITS, MIN_TAGS}
+use Rattle.cxl_codec.specs.declared.version_one.TheConstants.{MOST_SHORT_TAGS}
 
 -- the four bytes that begin every trace
 unfoldable pub magic_at : List ℕ → Read ℕ
@@ -20,7 +22,7 @@ magic_at bytes = do
 -- the number of streams, and the host of each
 unfoldable pub streams_at : ℕ → List ℕ → Read (List ℕ)
 streams_at hosts bytes = do
-  count ← field_of FieldName.StreamCount (within 0 64) bytes
+  count ← field_of FieldName.StreamCount (within 0 MAX_STREAMS) bytes
   streams ← run_at FieldName.StreamHost (hosts - 1) count.0 count.1
   Ok (streams.0, streams.1)
 
@@ -29,13 +31,13 @@ unfoldable pub header_at : List ℕ → Read Configuration
 header_at bytes = do
   magic ← magic_at bytes
   version ← field_of FieldName.Version (within 1 1) magic.1
-  hosts ← field_of FieldName.Hosts (within 1 16) version.1
+  hosts ← field_of FieldName.Hosts (within 1 MAX_HOSTS) version.1
   lines ← number_at w16 hosts.1
   high ← field_of FieldName.Entries (within 0 15) lines.1
   low ← free_at high.1
   ways ← free_at low.1
-  tags ← field_of FieldName.Tags (within 2 64) ways.1
-  credits ← field_of FieldName.Credits (within 2 64) tags.1
+  tags ← field_of FieldName.Tags (within MIN_TAGS MOST_SHORT_TAGS) ways.1
+  credits ← field_of FieldName.Credits (within MIN_CREDITS MAX_CREDITS) tags.1
   streams ← streams_at hosts.0 credits.1
   Ok (record { hosts = hosts.0; lines = lines.0 + 1; entries = 256 * high.0 + low.0 + 1; ways = ways.0 + 1; tags = tags.0; credits = credits.0; streams = streams.0 }, streams.1)
 

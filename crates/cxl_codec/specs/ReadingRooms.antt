@@ -1,11 +1,12 @@
 -- Reading an event part after part into what has its earlier parts already. No public clause cites this file.
-use Rattle.std.specs.Prelude.{ℕ, zero, suc, List, Ok}
+use Rattle.std.specs.Prelude.{ℕ, zero, suc, List, Ok, ◌-◌}
 use Rattle.cxl_message.specs.declared.events.Event.{Event}
 use Rattle.event_room.specs.Made.{begun, emitting, with_send}
 use Rattle.cxl_codec.specs.declared.fields.FieldName.{FieldName}
 use Rattle.cxl_codec.specs.declared.kinds.CauseKind.{CauseKind}
 use Rattle.cxl_codec.specs.Reading.{Read, ◌>>=◌, field_of, within}
 use Rattle.cxl_codec.specs.ReadingEvents.{cause_fields_at, cause_at, out_at, flagged_at}
+use Rattle.cxl_message.specs.declared.limits.TheConstants.{DEVICE}
 
 -- an event that is begun by a cause of this kind
 unfoldable pub begun_fields_at : ℕ → CauseKind → List ℕ → Read Event
@@ -55,7 +56,7 @@ commit_set_at event bytes = do
 -- an event, part after part
 unfoldable pub room_event_at : List ℕ → Read Event
 room_event_at bytes = do
-  agent ← field_of FieldName.Agent (within 0 16) bytes
+  agent ← field_of FieldName.Agent (within 0 DEVICE) bytes
   begun ← begun_at agent.0 agent.1
   sent ← sends_sent_at begun.0 begun.1
   commit_set_at sent.0 sent.1

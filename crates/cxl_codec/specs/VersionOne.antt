@@ -9,6 +9,7 @@ use Rattle.cxl_message.specs.declared.events.Event.{Event}
 use Rattle.cxl_message.specs.Events.{outs, tag_of_act}
 use Rattle.cxl_message.specs.Messages.{tag_of}
 use Rattle.cxl_message.specs.Setup.{Configuration, IsWithinLimits}
+use Rattle.cxl_codec.specs.declared.version_one.TheConstants.{MOST_SHORT_TAGS}
 
 -- a tag, if there is one, that version 1 has room for
 abbrev pub is_short_tag : Option ℕ → Bool
@@ -34,7 +35,7 @@ fits_version_one e = cause_fits_version_one e.cause && list_all (λ o. message_f
 
 -- a setup whose number of tags version 1 has room for
 abbrev pub setup_fits_version_one : Configuration → Bool
-setup_fits_version_one setup = nat_le setup.tags 64
+setup_fits_version_one setup = nat_le setup.tags MOST_SHORT_TAGS
 
 -- a setup that has a header of version 1
 pub record HeaderFits (setup : Configuration) : Type 0 where

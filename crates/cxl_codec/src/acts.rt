@@ -11,10 +11,11 @@ ghost use Rattle.cxl_codec.specs.declared.fields.FieldName.{FieldName};
 
 use crate::faults::Fault;
 use crate::fields::FieldName;
-use crate::kinds::{ActKind, LineActKind, TaggedActKind, read_act_kind};
+use crate::kind_bytes::read_act_kind;
+use crate::kinds::{ActKind, LineActKind, TaggedActKind};
 use crate::reading::{read_channel, read_line, read_tag, read_within};
 use crate::writing::put;
-use cxl_message::{Act, Line, Tag};
+use cxl_message::{Act, Line, MAX_HOSTS, Tag};
 
 /// How many bytes an act has at most.
 pub const LONGEST_ACT: usize = 6;
@@ -96,12 +97,12 @@ fn read_act_fields(kind: ActKind, bytes: &[u8]) -> Result<(Act, &[u8]), Fault>
             Ok((Act::HostReturn(channel), rest))
         }
         ActKind::Snoop => {
-            let (host, rest) = read_within(bytes, FieldName::Host, 0, 15)?;
+            let (host, rest) = read_within(bytes, FieldName::Host, 0, MAX_HOSTS - 1)?;
             let (line, rest) = read_line(rest)?;
             Ok((Act::Snoop { host, line }, rest))
         }
         ActKind::DeviceReturn => {
-            let (host, rest) = read_within(bytes, FieldName::Host, 0, 15)?;
+            let (host, rest) = read_within(bytes, FieldName::Host, 0, MAX_HOSTS - 1)?;
             let (channel, rest) = read_channel(rest)?;
             Ok((Act::DeviceReturn { host, channel }, rest))
         }
@@ -128,7 +129,7 @@ fn read_line_act(kind: LineActKind, bytes: &[u8]) -> Result<(Act, &[u8]), Fault>
 fn read_tagged_act(kind: TaggedActKind, bytes: &[u8]) -> Result<(Act, &[u8]), Fault>
     ensures { Gives (λ x. (x.0, x.1.now)) result (act_fields_at (ActKind.Tagged kind) bytes.now) }
 {
-    let (host, rest) = read_within(bytes, FieldName::Host, 0, 15)?;
+    let (host, rest) = read_within(bytes, FieldName::Host, 0, MAX_HOSTS - 1)?;
     let (tag, rest) = read_tag(rest)?;
     match kind {
         TaggedActKind::Serve => Ok((Act::Serve { host, tag }, rest)),

@@ -20,13 +20,14 @@ ghost use Rattle.cxl_codec.specs.ReadingRooms.{begun_fields_at, begun_at, sent_a
 use crate::acts::{put_act, read_act};
 use crate::faults::{Fault, refusal};
 use crate::fields::FieldName;
-use crate::kinds::{CauseKind, read_cause_kind};
+use crate::kind_bytes::read_cause_kind;
+use crate::kinds::CauseKind;
 use crate::messages::{put_message, read_message};
 use crate::operations::{put_op, read_op};
 use crate::reading::{read_payload, read_u32, read_within};
 use crate::refusals::DecodeRefusal;
 use crate::writing::{put, put_payload};
-use cxl_message::{Act, Event};
+use cxl_message::{Act, DEVICE, Event, MAX_HOSTS, MAX_STREAMS};
 use event_room::{CauseRef, CommitRef, EventRoom, MessageRef, OpRef, SendsRef};
 use std::alloc::AllocError;
 
@@ -207,7 +208,7 @@ pub fn decode_room(bytes: &[u8], room: &mut EventRoom) -> Result<usize, DecodeRe
 fn read_event<'a>(bytes: &'a [u8], room: &mut EventRoom) -> Result<&'a [u8], Fault>
     ensures { Gives (λ rest. (room.new, rest.now)) result (room_event_at bytes.now) }
 {
-    let (agent, rest) = read_within(bytes, FieldName::Agent, 0, 16)?;
+    let (agent, rest) = read_within(bytes, FieldName::Agent, 0, DEVICE)?;
     let rest = read_cause(agent, rest, room)?;
     let rest = read_sends(rest, room)?;
     let rest = read_commit(rest, room)?;
@@ -236,7 +237,7 @@ fn read_begun<'a>(agent: u8, bytes: &'a [u8], room: &mut EventRoom) -> Result<&'
     ensures gives { Gives (λ rest. (room.new, rest.now)) result (begun_fields_at agent CauseKind.Op bytes.now) }
     ensures nothing { IfOk result (λ rest. room.new.sends ≡ Sends.Nothing) }
 {
-    let (stream, rest) = read_within(bytes, FieldName::Stream, 0, 63)?;
+    let (stream, rest) = read_within(bytes, FieldName::Stream, 0, MAX_STREAMS - 1)?;
     let (index, rest) = read_u32(rest)?;
     let (op, rest) = read_op(rest)?;
     room.begin_op(agent, stream, index, op);
@@ -250,7 +251,7 @@ fn read_taken<'a>(agent: u8, bytes: &'a [u8], room: &mut EventRoom) -> Result<&'
     ensures gives { Gives (λ rest. (room.new, rest.now)) result (begun_fields_at agent CauseKind.Take bytes.now) }
     ensures nothing { IfOk result (λ rest. room.new.sends ≡ Sends.Nothing) }
 {
-    let (host, rest) = read_within(bytes, FieldName::Host, 0, 15)?;
+    let (host, rest) = read_within(bytes, FieldName::Host, 0, MAX_HOSTS - 1)?;
     let (message, rest) = read_message(rest)?;
     room.begin_take(agent, host, message);
     Ok(rest)
@@ -275,7 +276,7 @@ fn read_out<'a>(bytes: &'a [u8], room: &mut EventRoom) -> Result<&'a [u8], Fault
     ensures gives { Gives (λ rest. (room.new, rest.now)) result (sent_at room.old bytes.now) }
     ensures one { room.old.sends ≡ Sends.Nothing → IfOk result (λ rest. IsTrue (may_send room.new.sends)) }
 {
-    let (host, rest) = read_within(bytes, FieldName::Host, 0, 15)?;
+    let (host, rest) = read_within(bytes, FieldName::Host, 0, MAX_HOSTS - 1)?;
     let (message, rest) = read_message(rest)?;
     room.send_message(host, message);
     Ok(rest)
@@ -328,7 +329,7 @@ fn read_flagged<'a>(flag: u8, bytes: &'a [u8], room: &mut EventRoom) -> Result<&
     match flag {
         0 => Ok(bytes),
         _ => {
-            let (stream, rest) = read_within(bytes, FieldName::Stream, 0, 63)?;
+            let (stream, rest) = read_within(bytes, FieldName::Stream, 0, MAX_STREAMS - 1)?;
             let (index, rest) = read_u32(rest)?;
             let (op, rest) = read_op(rest)?;
             let (value, rest) = read_payload(rest)?;

@@ -12,8 +12,9 @@ use crate::faults::{Fault, refusal};
 use crate::fields::FieldName;
 use crate::reading::{read_free, read_run, read_u16, read_within};
 use crate::refusals::DecodeRefusal;
+use crate::version_one::MOST_SHORT_TAGS;
 use crate::writing::put;
-use cxl_message::Setup;
+use cxl_message::{MAX_CREDITS, MAX_HOSTS, MAX_STREAMS, MIN_CREDITS, MIN_TAGS, Setup};
 use std::alloc::AllocError;
 
 /// Appends the header of a trace of this setup: its four fixed bytes, version 1, the numbers of the setup and the
@@ -69,13 +70,13 @@ fn read_header(bytes: &[u8]) -> Result<(Setup, &[u8]), Fault>
 {
     let (_, rest) = read_magic(bytes)?;
     let (_, rest) = read_within(rest, FieldName::Version, 1, 1)?;
-    let (hosts, rest) = read_within(rest, FieldName::Hosts, 1, 16)?;
+    let (hosts, rest) = read_within(rest, FieldName::Hosts, 1, MAX_HOSTS)?;
     let (lines, rest) = read_u16(rest)?;
     let (high, rest) = read_within(rest, FieldName::Entries, 0, 15)?;
     let (low, rest) = read_free(rest)?;
     let (ways, rest) = read_free(rest)?;
-    let (tags, rest) = read_within(rest, FieldName::Tags, 2, 64)?;
-    let (credits, rest) = read_within(rest, FieldName::Credits, 2, 64)?;
+    let (tags, rest) = read_within(rest, FieldName::Tags, MIN_TAGS as u8, MOST_SHORT_TAGS as u8)?;
+    let (credits, rest) = read_within(rest, FieldName::Credits, MIN_CREDITS, MAX_CREDITS)?;
     let (streams, rest) = read_streams(hosts, rest)?;
     let lines = u32::from(lines) + 1;
     let entries = 256 * u16::from(high) + u16::from(low) + 1;
@@ -103,7 +104,7 @@ fn read_streams(hosts: u8, bytes: &[u8]) -> Result<(&[u8], &[u8]), Fault>
     requires { 1 ≤ hosts }
     ensures { Gives (λ x. (x.0.now, x.1.now)) result (streams_at hosts bytes.now) }
 {
-    let (count, rest) = read_within(bytes, FieldName::StreamCount, 0, 64)?;
+    let (count, rest) = read_within(bytes, FieldName::StreamCount, 0, MAX_STREAMS)?;
     let (streams, rest) = read_run(rest, FieldName::StreamHost, hosts - 1, count as usize)?;
     Ok((streams, rest))
 }

@@ -10,14 +10,14 @@ mod events;
 mod faults;
 mod fields;
 mod headers;
-mod kinds;
+mod kind_bytes;
+pub mod kinds;
 mod laws;
 mod messages;
 mod openings;
 mod operations;
 mod reading;
 mod refusals;
-mod scans;
 mod version_one;
 mod writing;
 
@@ -26,10 +26,9 @@ pub use events::{decode_event, decode_room, encode_event, encode_room};
 pub use fields::FieldName;
 pub use headers::{decode_header, encode_header};
 pub use laws::{one_answer, one_spelling, one_trace, read_again};
-pub use openings::{decode_opening, encode_opening, opening_cut_below};
+pub use openings::{OPENING_LENGTH, decode_opening, encode_opening};
 pub use refusals::DecodeRefusal;
-pub use scans::EventScan;
-pub use version_one::{fits_version_one, setup_fits_version_one};
+pub use version_one::{MOST_SHORT_TAGS, fits_version_one, setup_fits_version_one};
 
 #[cfg(test)]
 mod tests;

@@ -13,14 +13,15 @@ ghost use Rattle.cxl_codec.specs.ReadingEvents.{message_fields_at, message_at};
 
 use crate::faults::Fault;
 use crate::fields::FieldName;
-use crate::kinds::{MessageKind, read_message_kind};
+use crate::kind_bytes::read_message_kind;
+use crate::kinds::MessageKind;
 use crate::reading::{
     read_bitag, read_channel, read_line, read_meta, read_payload, read_snoop_type, read_span,
     read_tag, read_within, read_zeros,
 };
 use crate::writing::{put, put_payload};
 use cxl_message::codes::{BI_CONFLICT, CREDIT, MEM_DATA, MEM_WR};
-use cxl_message::{BiTag, Line, Meta, ReqOp, RspOp, SnpOp, SnpType, Span, Tag};
+use cxl_message::{BiTag, Line, MAX_SPAN, Meta, ReqOp, RspOp, SnpOp, SnpType, Span, Tag};
 use event_room::{MessageHead, MessageRef};
 
 /// How many bytes a message has at most.
@@ -190,7 +191,7 @@ fn read_message_fields(kind: MessageKind, bytes: &[u8]) -> Result<(MessageRef<'_
         }
         MessageKind::BiRsp(op) => {
             let (bitag, rest) = read_bitag(bytes)?;
-            let (low, rest) = read_within(rest, FieldName::LowAddr, 0, 3)?;
+            let (low, rest) = read_within(rest, FieldName::LowAddr, 0, MAX_SPAN - 1)?;
             Ok((
                 MessageRef::plain(MessageHead::BiRsp { op, bitag, low }),
                 rest,

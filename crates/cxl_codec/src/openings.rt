@@ -1,7 +1,7 @@
 // The opening records of a trace.
-ghost use Rattle.std.specs.Prelude.{◌≡◌, ◌<◌, ◌++◌, ℕ, List, All, OnOk, OnErr, IfOk, IfErr, length};
-ghost use Rattle.cxl_codec.specs.Grammar.{BeginsWith, IsCutShort, Refuses};
-ghost use Rattle.cxl_codec.specs.Openings.{OpeningFits, opening_cells, opening_length};
+ghost use Rattle.std.specs.Prelude.{◌≡◌, ◌<◌, ◌++◌, OnOk, OnErr, IfOk, IfErr};
+ghost use Rattle.cxl_codec.specs.Grammar.{BeginsWith, Refuses};
+ghost use Rattle.cxl_codec.specs.Openings.{OpeningFits, opening_cells};
 ghost use Rattle.cxl_codec.specs.Traces.{opening_bytes};
 ghost use Rattle.cxl_codec.specs.Reading.{Gives};
 ghost use Rattle.cxl_codec.specs.ReadingFiles.{opening_at};
@@ -14,8 +14,8 @@ use crate::writing::{put, put_payload};
 use cxl_message::{Bytes64, Line};
 use std::alloc::AllocError;
 
-/// How many bytes an opening record has.
-const OPENING_LENGTH: usize = 67;
+/// How many bytes an opening record has (own rule).
+pub const OPENING_LENGTH: usize = 67;
 
 /// Appends the opening record of a line, which is below 65,536, and its bytes (own rule). The error is want of
 /// memory, and `out` is then as before.
@@ -25,7 +25,7 @@ pub fn encode_opening(line: Line, bytes: &Bytes64, out: &mut Vec<u8>) -> Result<
     ensures fits { OnOk result (OpeningFits (line, bytes.now)) }
     ensures err { OnErr result (out.new.items ≡ out.old.items) }
 {
-    out.reserve(67)?;
+    out.reserve(OPENING_LENGTH)?;
     let [high, low] = (line.0 as u16).to_be_bytes();
     put(out, &[0xf0, high, low]);
     put_payload(out, &bytes.0);
@@ -55,16 +55,4 @@ fn read_opening(bytes: &[u8]) -> Result<((Line, Bytes64), &[u8]), Fault>
     let (bytes, rest) = read_payload(rest)?;
     let opened = (Line(u32::from(line)), Bytes64(*bytes));
     Ok((opened, rest))
-}
-
-/// Below how many bytes an opening record is cut short that begins with these, whatever follows: 67, the length of each
-/// opening record, or 0 where none begins so (own rule).
-pub fn opening_cut_below(bytes: &[u8]) -> usize
-    ensures value { result ≡ opening_length bytes.now }
-    ensures cut { (more : List ℕ) → All (λ b. b < 256) more → length (bytes.now ++ more) < result → IsCutShort OpeningFits opening_cells (bytes.now ++ more) }
-{
-    if bytes.is_empty() || bytes[0] != 0xf0 {
-        return 0;
-    }
-    OPENING_LENGTH
 }

@@ -8,9 +8,11 @@ ghost use Rattle.cxl_codec.specs.ReadingEvents.{op_fields_at, op_at};
 
 use crate::faults::Fault;
 use crate::fields::FieldName;
-use crate::kinds::{OpKind, read_op_kind};
+use crate::kind_bytes::read_op_kind;
+use crate::kinds::OpKind;
 use crate::reading::{read_line, read_payload, read_u64, read_within};
 use crate::writing::{put, put_payload};
+use cxl_message::PLACES;
 use event_room::{OpHead, OpRef};
 
 /// How many bytes an operation has at most.
@@ -65,7 +67,7 @@ fn read_op_fields(kind: OpKind, bytes: &[u8]) -> Result<(OpRef<'_>, &[u8]), Faul
     match kind {
         OpKind::Load => Ok((OpRef::plain(OpHead::Load { line }), rest)),
         OpKind::Word => {
-            let (place, rest) = read_within(rest, FieldName::Place, 0, 7)?;
+            let (place, rest) = read_within(rest, FieldName::Place, 0, PLACES - 1)?;
             let (value, rest) = read_u64(rest)?;
             Ok((OpRef::plain(OpHead::Word { line, place, value }), rest))
         }

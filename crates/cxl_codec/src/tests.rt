@@ -3,7 +3,6 @@ ghost use Rattle.std.specs.Prelude.{◌≡◌, ◌++◌, OnOk};
 mod damage;
 mod examples;
 mod places;
-mod scanning;
 
 use super::*;
 use cxl_message::{Act, Cause, Event, Line, Message, NdrOp, Out, Sends, Setup, Tag};

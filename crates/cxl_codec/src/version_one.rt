@@ -6,6 +6,9 @@ ghost use Rattle.cxl_codec.specs.VersionOne.{fits_version_one as event_fits_vers
 
 use cxl_message::{Cause, Event, Message, Sends, Setup, Tag};
 
+/// Version 1 has room for at most this many tags in a setup (own rule).
+pub const MOST_SHORT_TAGS: u16 = 64;
+
 /// Whether version 1 has room for every Tag of an event: each is below 65,536 (own rule).
 pub fn fits_version_one(event: &Event) -> bool
     ensures { result ≡ event_fits_version_one event.now }
@@ -17,7 +20,7 @@ pub fn fits_version_one(event: &Event) -> bool
 pub fn setup_fits_version_one(setup: &Setup) -> bool
     ensures { result ≡ header_fits_version_one setup.now }
 {
-    setup.tags() <= 64
+    setup.tags() <= MOST_SHORT_TAGS
 }
 
 /// Whether version 1 has room for the Tag of a cause.

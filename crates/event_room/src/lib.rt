@@ -7,6 +7,7 @@
 
 mod laws;
 mod making;
+mod matching;
 mod messages;
 mod operations;
 mod parts;

@@ -168,3 +168,21 @@ fn an_event_is_made_in_place(rt: HostRuntime) -> Result<(), Fail> {
     assert!(rt; room.commit().is_none());
     Ok(())
 }
+
+#[test]
+fn rooms_are_compared(rt: HostRuntime) -> Result<(), Fail> {
+    let (mut room, mut other) = (EventRoom::new(), EventRoom::new());
+    room.set(&passes_on(MESSAGES[1], MESSAGES[5]));
+    other.set(&passes_on(MESSAGES[1], MESSAGES[5]));
+    assert!(rt; room.sends_match(&other));
+    assert!(rt; room.commit_matches(&other));
+    other.set(&passes_on(MESSAGES[1], MESSAGES[4]));
+    assert!(rt; !room.sends_match(&other));
+    room.set(&hits(OPS[2]));
+    assert!(rt; !room.commit_matches(&other));
+    other.set(&hits(OPS[2]));
+    assert!(rt; room.commit_matches(&other));
+    other.set(&hits(OPS[1]));
+    assert!(rt; !room.commit_matches(&other));
+    Ok(())
+}

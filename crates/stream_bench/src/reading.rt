@@ -1,5 +1,5 @@
 // A trace is read in pieces, or its records are decoded alone.
-ghost use Rattle.std.specs.Prelude.{◌≡◌, ◌+◌, ◌^◌, ◌<◌, ◌≤◌, length};
+ghost use Rattle.std.specs.Prelude.{◌+◌, ◌^◌, ◌<◌, ◌≤◌, length};
 ghost use Rattle.trace_stream.specs.Readings.{fed_count};
 
 use crate::work::Tally;
@@ -11,7 +11,7 @@ use trace_stream::{Found, Room, TraceReader};
 /// More bytes than a trace has.
 const LIMIT: u64 = 1 << 62;
 
-/// The most items that stand in the bytes of a reader.
+/// More items than stand in the bytes that a reader keeps.
 const ITEMS: usize = 365;
 
 /// Decodes the event records of a trace from the front, each into the same room.
@@ -49,36 +49,35 @@ pub fn read(alloc: Global, trace: &[u8], piece: u32, tally: &mut Tally) -> Resul
     Ok(())
 }
 
-/// Feeds a piece to the reader, and takes the items. It answers whether the last one of them was the end record.
+/// Reads the items of the bytes that wait and of a piece behind them. It answers whether the last one of them was the end
+/// record.
 fn feed(reader: &mut TraceReader, piece: &[u8], room: &mut Room, tally: &mut Tally) -> bool
     requires { fed_count reader.old + length piece.now < 2 ^ 63 }
     ensures { fed_count reader.new ≤ fed_count reader.old + length piece.now }
 {
-    let mut rest = piece;
-    for _ in 0..piece.len() {
-        let count = reader.feed(rest);
-        let ended = take(reader, room, tally);
-        if count == rest.len() {
-            return ended;
-        }
-        rest = &rest[count..];
-    }
-    false
-}
-
-/// Takes the items that the reader has. It answers whether the last one of them was the end record.
-fn take(reader: &mut TraceReader, room: &mut Room, tally: &mut Tally) -> bool
-    ensures { fed_count reader.new ≡ fed_count reader.old }
-{
     let mut ended = false;
-    for _ in 0..ITEMS {
-        match reader.next_into(room) {
-            Ok(Found::Event) => tally.add_event(&room.event),
-            Ok(Found::End { .. }) => ended = true,
-            Ok(Found::More) => return ended,
-            Ok(_) => {}
+    let mut rest = piece;
+    for _ in 0..piece.len().saturating_add(ITEMS) {
+        match reader.next_from(rest, room) {
+            Ok((Found::More, _)) => return ended,
+            Ok((found, count)) => {
+                ended = is_end(found, room, tally);
+                rest = &rest[count..];
+            }
             Err(_) => return false,
         }
     }
-    false
+    ended
+}
+
+/// Counts an item that is an event. It answers whether the item is the end record.
+fn is_end(found: Found, room: &Room, tally: &mut Tally) -> bool {
+    match found {
+        Found::Event => {
+            tally.add_event(&room.event);
+            false
+        }
+        Found::End { .. } => true,
+        _ => false,
+    }
 }

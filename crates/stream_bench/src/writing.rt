@@ -6,10 +6,10 @@ ghost use Rattle.trace_stream.specs.declared.progress.Progress.{Progress};
 
 use crate::work::{Size, Tally};
 use bench_events::{
-    answered, asked, begun, committed, conflicted, granted, returned, snooped, started, stored,
-    written,
+    answered, asked, begun, committed, conflicted, granted, returned, room_of, snooped, started,
+    stored, written,
 };
-use cxl_codec::{encode_end, encode_event, encode_header};
+use cxl_codec::{encode_end, encode_header, encode_room};
 use cxl_message::{Opening, Setup};
 use outside_io::{MemSink, Sink};
 use std::alloc::{AllocError, Global};
@@ -64,22 +64,29 @@ fn setup() -> Option<Setup>
 
 /// Appends so many groups of records; the buffer is emptied where it has as many bytes as the limit.
 fn fill(groups: u32, limit: usize, out: &mut Vec<u8>) -> Result<(), AllocError> {
-    let (begun, asked, started, snooped) = (begun(), asked(), started(), snooped());
-    let (conflicted, answered, granted) = (conflicted(), answered(), granted());
-    let (committed, stored, written) = (committed(), stored(), written());
-    let returned = returned();
+    let begun = room_of(&begun());
+    let asked = room_of(&asked());
+    let started = room_of(&started());
+    let snooped = room_of(&snooped());
+    let conflicted = room_of(&conflicted());
+    let answered = room_of(&answered());
+    let granted = room_of(&granted());
+    let committed = room_of(&committed());
+    let stored = room_of(&stored());
+    let written = room_of(&written());
+    let returned = room_of(&returned());
     for _ in 0..groups {
-        encode_event(&begun, out)?;
-        encode_event(&asked, out)?;
-        encode_event(&started, out)?;
-        encode_event(&snooped, out)?;
-        encode_event(&conflicted, out)?;
-        encode_event(&answered, out)?;
-        encode_event(&granted, out)?;
-        encode_event(&committed, out)?;
-        encode_event(&stored, out)?;
-        encode_event(&written, out)?;
-        encode_event(&returned, out)?;
+        encode_room(&begun, out)?;
+        encode_room(&asked, out)?;
+        encode_room(&started, out)?;
+        encode_room(&snooped, out)?;
+        encode_room(&conflicted, out)?;
+        encode_room(&answered, out)?;
+        encode_room(&granted, out)?;
+        encode_room(&committed, out)?;
+        encode_room(&stored, out)?;
+        encode_room(&written, out)?;
+        encode_room(&returned, out)?;
         if out.len() >= limit {
             out.clear();
         }
@@ -109,22 +116,29 @@ fn put_groups<K: Sink>(groups: u32, writer: &mut TraceWriter<K>) -> Result<(), T
     ensures begun { OnOk result (writer.new.progress ≡ Progress.Begun) }
     ensures counts { OnOk result (reach writer.new.out < 2 ^ 62) }
 {
-    let (begun, asked, started, snooped) = (begun(), asked(), started(), snooped());
-    let (conflicted, answered, granted) = (conflicted(), answered(), granted());
-    let (committed, stored, written) = (committed(), stored(), written());
-    let returned = returned();
+    let begun = room_of(&begun());
+    let asked = room_of(&asked());
+    let started = room_of(&started());
+    let snooped = room_of(&snooped());
+    let conflicted = room_of(&conflicted());
+    let answered = room_of(&answered());
+    let granted = room_of(&granted());
+    let committed = room_of(&committed());
+    let stored = room_of(&stored());
+    let written = room_of(&written());
+    let returned = room_of(&returned());
     for number in 0..groups {
-        writer.put(&begun)?;
-        writer.put(&asked)?;
-        writer.put(&started)?;
-        writer.put(&snooped)?;
-        writer.put(&conflicted)?;
-        writer.put(&answered)?;
-        writer.put(&granted)?;
-        writer.put(&committed)?;
-        writer.put(&stored)?;
-        writer.put(&written)?;
-        writer.put(&returned)?;
+        writer.put_room(&begun)?;
+        writer.put_room(&asked)?;
+        writer.put_room(&started)?;
+        writer.put_room(&snooped)?;
+        writer.put_room(&conflicted)?;
+        writer.put_room(&answered)?;
+        writer.put_room(&granted)?;
+        writer.put_room(&committed)?;
+        writer.put_room(&stored)?;
+        writer.put_room(&written)?;
+        writer.put_room(&returned)?;
     }
     Ok(())
 }

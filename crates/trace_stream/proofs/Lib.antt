@@ -15,3 +15,4 @@ pub mod WholeTraces
 pub mod Extending
 pub mod Standing
 pub mod Scanned
+pub mod InPlace

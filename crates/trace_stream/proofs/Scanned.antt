@@ -8,7 +8,7 @@ use Rattle.cxl_codec.specs.declared.refusals.DecodeRefusal.{DecodeRefusal}
 use Rattle.cxl_codec.specs.Openings.{opening_cells, OpeningFits}
 use Rattle.cxl_codec.specs.Events.{event_cells, EventFits}
 use Rattle.cxl_codec.specs.Grammar.{IsCutShort}
-use Rattle.cxl_codec.specs.Scanning.{ToCome, IsBehind}
+use Rattle.event_scan.specs.Scanning.{ToCome, IsBehind}
 use Rattle.trace_stream.specs.declared.items.Item.{Item}
 use Rattle.trace_stream.specs.declared.items.TraceFault.{TraceFault}
 use Rattle.trace_stream.specs.Readings.{Reading, Repeats, Answered, IsQuiet}

@@ -1,6 +1,7 @@
 -- What a reader of traces has read and keeps, and what its calls do to it. Every rule here is an own rule.
-use Rattle.std.specs.Prelude.{◌≡◌, ℕ, ◌+◌, ◌-◌, ◌<◌, List, ◌++◌, All, length, drop, min, Option, Some, None, IfNone, Result, Ok, Err}
+use Rattle.std.specs.Prelude.{◌≡◌, ℕ, ◌+◌, ◌-◌, ◌<◌, List, ◌++◌, All, length, take, drop, min, Option, Some, None, IfNone, Result, Ok, Err}
 use Rattle.trace_stream.specs.declared.items.Item.{Item}
+use Rattle.trace_stream.specs.declared.items.Found.{Found}
 use Rattle.trace_stream.specs.declared.items.Reason.{Reason}
 use Rattle.trace_stream.specs.declared.items.TraceFault.{TraceFault}
 use Rattle.trace_stream.specs.declared.stages.Stage.{Stage}
@@ -24,6 +25,19 @@ fed_count reading = reading.place + length reading.waiting
 -- how many bytes of a piece are taken
 abbrev pub taken_count : Reading → List ℕ → ℕ
 taken_count reading piece = min (length piece) (room - length reading.waiting)
+
+-- the reading after more bytes were fed
+abbrev pub after_feed : Reading → List ℕ → Reading
+after_feed reading bytes = record reading { waiting = reading.waiting ++ bytes }
+
+-- how many bytes of a piece an answer took: so many as it says, or where it is a fault as many as there is room for
+abbrev pub taken_with : Reading → List ℕ → Result (Found × ℕ) TraceFault → ℕ
+taken_with reading piece (Ok found) = found.1
+taken_with reading piece (Err fault) = taken_count reading piece
+
+-- the reading after those bytes were fed
+abbrev pub fed_with : Reading → List ℕ → Result (Found × ℕ) TraceFault → Reading
+fed_with reading piece answer = after_feed reading (take (taken_with reading piece answer) piece)
 
 -- the fault that was met, or what the bytes that wait say
 abbrev pub Repeats : Option TraceFault → Type 0 → Result Item TraceFault → Type 0

@@ -12,8 +12,9 @@ ghost use Rattle.trace_stream.specs.Buffers.{Gathers, GathersFront, Keeps, empty
 ghost use Rattle.trace_stream.specs.Writing.{begin_bytes, begin_cost, end_cost, event_cost};
 
 use crate::refusals::TraceWriteRefusal;
-use cxl_codec::{encode_end, encode_event, encode_header, encode_opening};
+use cxl_codec::{encode_end, encode_event, encode_header, encode_opening, encode_room};
 use cxl_message::{Bytes64, Event, Line, Opening, Setup};
+use event_room::EventRoom;
 use outside_io::{Sink, write_all};
 use std::alloc::{AllocError, Global};
 use std::marker::Model;
@@ -145,6 +146,22 @@ impl<'a, K: Sink> Buffered<'a, K> {
         ensures kept { Keeps self.old self.new event_cost result }
     {
         encode_event(event, &mut self.waiting)?;
+        self.drain()
+    }
+
+    /// Puts the record of the event in a room, which is well formed and whose Tags are below 65,536.
+    pub fn put_room(&mut self, room: &EventRoom) -> Result<(), TraceWriteRefusal>
+        requires formed { IsTrue (is_well_formed room.now) }
+        requires version_one { IsTrue (fits_version_one room.now) }
+        requires counts { reach self.old + event_cost < 2 ^ 63 }
+
+        ensures put { OnOk result (Gathers self.old self.new (event_bytes room.now)) }
+        ensures front { OnErr result (GathersFront self.old self.new (event_bytes room.now)) }
+        ensures fits { OnOk result (EventFits room.now) }
+        ensures bounded { OnOk result (length self.new.waiting < full) }
+        ensures kept { Keeps self.old self.new event_cost result }
+    {
+        encode_room(room, &mut self.waiting)?;
         self.drain()
     }
 

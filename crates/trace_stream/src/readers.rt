@@ -1,8 +1,8 @@
 // Reading a trace from bytes that come in any pieces.
 ghost use Rattle.std.specs.Prelude.{◌≡◌, true, ◌↔◌, ◌⊎◌, Ok, ℕ, List, IfErr, ◌+◌, ◌-◌, ◌^◌, ◌<◌, ◌≤◌, ◌++◌, [], None, IfOk, length, take, drop, vec_len, vec_capacity};
-ghost use Rattle.trace_stream.specs.Items.{item_of, outcome_with};
+ghost use Rattle.trace_stream.specs.Items.{found_of, item_of, outcome_with};
 ghost use Rattle.trace_stream.specs.declared.items.Item.{Item};
-ghost use Rattle.trace_stream.specs.Readings.{Answered, IsDrained, IsGiven, IsPause, IsQuiet, after_next, fed_count, finish_of, room as longest, taken_count};
+ghost use Rattle.trace_stream.specs.Readings.{Answered, IsDrained, IsGiven, IsPause, IsQuiet, after_next, fed_count, fed_with, finish_of, room as longest, taken_count, taken_with};
 ghost use Rattle.trace_stream.specs.Runs.{HasFault, HasRead, IsTraceOf, items_after};
 
 use crate::items::{Found, Item, Reason, TraceFault};
@@ -10,7 +10,7 @@ use crate::records::read_at;
 use crate::rooms::Room;
 use crate::stages::{Stage, advanced, takes_events, takes_openings};
 use crate::waiting::Waiting;
-use cxl_codec::opening_cut_below;
+use event_scan::opening_cut_below;
 use std::alloc::{AllocError, Global};
 use std::marker::Model;
 
@@ -111,6 +111,25 @@ impl TraceReader {
         }
     }
 
+    /// The next item of the bytes that wait and of a piece behind them, with the number of bytes of the piece that were
+    /// taken, as if these had been fed before `next_into`. A record that is whole is read where it stands, and only one
+    /// that is cut short is kept: so all of the piece is taken where `More` is answered. After each item the next call
+    /// is given the rest of the piece. Where a fault is answered, as many bytes were taken as there was room for.
+    #[inline(always)]
+    pub fn next_from(&mut self, piece: &[u8], room: &mut Room) -> Result<(Found, usize), TraceFault>
+        requires { fed_count self.old + length piece.now < 2 ^ 63 }
+        ensures answer { Answered (fed_with self.old piece.now result) (outcome_with room.new (found_of result)) }
+        ensures after { self.new ≡ after_next (fed_with self.old piece.now result) (outcome_with room.new (found_of result)) }
+        ensures goes_on { (bytes : List ℕ) (items : List Item) → HasRead bytes items self.old → HasRead (bytes ++ take (taken_with self.old piece.now result) piece.now) (items_after items (outcome_with room.new (found_of result))) self.new }
+        ensures within { taken_with self.old piece.now result ≤ length piece.now }
+        ensures all { outcome_with room.new (found_of result) ≡ Ok Item.More → taken_with self.old piece.now result ≡ length piece.now }
+        ensures fewer { IsGiven (outcome_with room.new (found_of result)) → length self.new.waiting < length self.old.waiting + taken_with self.old piece.now result }
+        ensures drained { IsPause (outcome_with room.new (found_of result)) → IsDrained self.new }
+        ensures fed { fed_count self.new ≡ fed_count self.old + taken_with self.old piece.now result }
+    {
+        self.read_from(piece, room)
+    }
+
     /// Says that no byte follows. It is `Ok`, with the number of events, exactly where the end record was read and no
     /// byte waits. Else it is the fault that was met, or that the trace is short at the number of bytes that were fed.
     /// `next` was called after the last `feed`, and answered `More` or a fault.
@@ -141,6 +160,63 @@ impl TraceReader {
         ensures kept { length self.new.waiting ≤ longest }
     {
         self.waiting.feed(piece)
+    }
+
+    /// The next item of the bytes that wait and of a piece behind them, read where the piece stands if none wait.
+    #[inline(always)]
+    fn read_from(&mut self, piece: &[u8], room: &mut Room) -> Result<(Found, usize), TraceFault>
+        requires { fed_count self.old + length piece.now < 2 ^ 63 }
+        ensures answer { Answered (fed_with self.old piece.now result) (outcome_with room.new (found_of result)) }
+        ensures after { self.new ≡ after_next (fed_with self.old piece.now result) (outcome_with room.new (found_of result)) }
+        ensures within { taken_with self.old piece.now result ≤ length piece.now }
+        ensures all { outcome_with room.new (found_of result) ≡ Ok Item.More → taken_with self.old piece.now result ≡ length piece.now }
+    {
+        if self.waiting.len() != 0 || self.fault.is_some() {
+            return self.read_joined(piece, room);
+        }
+        match read_at(self.stage, self.place, piece, room) {
+            Ok((Found::More, _)) => self.read_joined(piece, room),
+            Ok((found, length)) => {
+                self.place += length as u64;
+                self.stage = advanced(self.stage, found, room);
+                self.quiet = 0;
+                Ok((found, length))
+            }
+            Err(_) => self.read_joined(piece, room),
+        }
+    }
+
+    /// The next item of the bytes that wait and of a piece behind them, of which as many are fed as there is room for.
+    /// Those that stand behind an item aren't kept.
+    #[inline(never)]
+    fn read_joined(&mut self, piece: &[u8], room: &mut Room) -> Result<(Found, usize), TraceFault>
+        requires { fed_count self.old + length piece.now < 2 ^ 63 }
+        ensures answer { Answered (fed_with self.old piece.now result) (outcome_with room.new (found_of result)) }
+        ensures after { self.new ≡ after_next (fed_with self.old piece.now result) (outcome_with room.new (found_of result)) }
+        ensures within { taken_with self.old piece.now result ≤ length piece.now }
+        ensures all { outcome_with room.new (found_of result) ≡ Ok Item.More → taken_with self.old piece.now result ≡ length piece.now }
+    {
+        let count = self.take(piece);
+        match self.step(room) {
+            Ok(found) => match found {
+                Found::More => Ok((found, count)),
+                _ => {
+                    let behind = count.min(self.waiting.len());
+                    self.leave(behind);
+                    Ok((found, count - behind))
+                }
+            },
+            Err(fault) => Err(fault),
+        }
+    }
+
+    /// Forgets so many of the last bytes that wait.
+    fn leave(&mut self, count: usize)
+        requires { count ≤ length self.old.waiting }
+        ensures { self.new ≡ record self.old { waiting = take (length self.old.waiting - count) self.old.waiting } }
+    {
+        self.waiting.leave(count);
+        self.quiet = 0;
     }
 
     /// The next item; what it has is written to `room`, all but the count of an `End`.

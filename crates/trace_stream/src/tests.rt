@@ -1,4 +1,5 @@
 mod long;
 mod reading;
 mod samples;
+mod standing;
 mod writing;

@@ -3,7 +3,7 @@ ghost use Rattle.std.specs.Prelude.{◌≡◌, ◌+◌, ◌-◌, ◌<◌, ◌≤
 ghost use Rattle.cxl_codec.specs.Events.{event_cells, EventFits};
 ghost use Rattle.cxl_codec.specs.Grammar.{IsCutShort};
 
-use cxl_codec::EventScan;
+use event_scan::EventScan;
 use std::alloc::{AllocError, Global};
 use std::marker::Model;
 
@@ -29,7 +29,7 @@ pub struct Waiting {
 
 impl Model for Waiting {
     ghost use Rattle.std.specs.Prelude.{◌-◌, ◌≤◌, ℕ, List, drop, take, vec_len, vec_capacity};
-    ghost use Rattle.cxl_codec.specs.Scanning.{IsBehind};
+    ghost use Rattle.event_scan.specs.Scanning.{IsBehind};
 
     ghost Value = { List ℕ };
 
@@ -108,6 +108,19 @@ impl Waiting {
         ensures { self.new ≡ drop count self.old }
     {
         self.start += count;
+        if self.scanned != 0 {
+            self.scan = EventScan::new();
+            self.scanned = 0;
+        }
+    }
+
+    /// Forgets so many of the last bytes.
+    pub fn leave(&mut self, count: usize)
+        requires { count ≤ length self.old }
+        ensures { self.new ≡ take (length self.old - count) self.old }
+    {
+        let left = self.len() - count;
+        self.bytes.truncate(self.start + left);
         if self.scanned != 0 {
             self.scan = EventScan::new();
             self.scanned = 0;

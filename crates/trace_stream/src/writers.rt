@@ -10,6 +10,7 @@ use crate::buffers::Buffered;
 use crate::progress::Progress;
 use crate::refusals::TraceWriteRefusal;
 use cxl_message::{Event, Opening, Setup};
+use event_room::EventRoom;
 use outside_io::Sink;
 use std::alloc::{AllocError, Global};
 use std::marker::Model;
@@ -87,6 +88,26 @@ impl<'a, K: Sink> TraceWriter<'a, K> {
         ensures kept { Keeps self.old.out self.new.out event_cost result }
     {
         self.out.put_event(event)?;
+        self.count += 1;
+        Ok(())
+    }
+
+    /// Puts the next event, that in a room, as `put` does an event by value; no payload is copied but into what waits.
+    pub fn put_room(&mut self, room: &EventRoom) -> Result<(), TraceWriteRefusal>
+        requires begun { self.old.progress ≡ Progress.Begun }
+        requires formed { IsTrue (is_well_formed room.now) }
+        requires version_one { IsTrue (fits_version_one room.now) }
+        requires events { self.old.count + 1 < 2 ^ 63 }
+        requires counts { reach self.old.out + event_cost < 2 ^ 63 }
+
+        ensures goes_on { OnOk result (GoesOn self.old self.new (room.now ∷ [])) }
+        ensures progress { OnOk result (self.new.progress ≡ Progress.Begun) }
+        ensures count { OnOk result (self.new.count ≡ self.old.count + 1) }
+        ensures bounded { OnOk result (length self.new.out.waiting < full) }
+        ensures front { OnErr result (BreaksOff self.old self.new (room.now ∷ [])) }
+        ensures kept { Keeps self.old.out self.new.out event_cost result }
+    {
+        self.out.put_room(room)?;
         self.count += 1;
         Ok(())
     }

@@ -10,17 +10,18 @@ use super::samples::*;
 use crate::*;
 use cxl_codec::{fits_version_one, setup_fits_version_one};
 use cxl_message::{Bytes64, Event, Line, Opening, Setup, well_formed};
+use event_room::EventRoom;
 use outside_io::{MemSink, Sink};
 use std::alloc::{AllocError, Global};
 use std::test::Fail;
 
-// Puts the trace of two events.
+// Puts the trace of two events, the second of them from its room.
 fn put_two<K: Sink>(
     writer: &mut TraceWriter<K>,
     setup: &Setup,
     opening: &Opening,
     first: &Event,
-    second: &Event,
+    second: &EventRoom,
 ) -> Result<(), TraceWriteRefusal>
     requires new { IsNew writer.old }
     requires lines { IsTrue (opening_fits setup.now.lines opening.now) }
@@ -38,7 +39,7 @@ fn put_two<K: Sink>(
 {
     writer.begin(setup, opening)?;
     writer.put(first)?;
-    writer.put(second)?;
+    writer.put_room(second)?;
     writer.end()
 }
 
@@ -66,7 +67,9 @@ fn write_two<K: Sink>(
     let Ok(mut writer) = TraceWriter::new(alloc, sink) else {
         unreachable!("a new writer is never refused")
     };
-    let result = put_two(&mut writer, setup, opening, first, second);
+    let mut room = EventRoom::new();
+    room.set(second);
+    let result = put_two(&mut writer, setup, opening, first, &room);
     writer.into_sink();
     result
 }

@@ -11,5 +11,5 @@ returns-clause-trace g c =
     let second = c.args.second.now in
     let start = c.args.writer.now.out.gone in
     let one = c.in_ok-put.ensures.goes_on start setup opening [] c.in_ok-begin.ensures.begun in
-    let two = c.in_ok-put-2.ensures.goes_on start setup opening (first ∷ []) one in
+    let two = c.in_ok-put_room.ensures.goes_on start setup opening (first ∷ []) one in
     on_ok_weaker c.end.result (λ ends. ends start setup opening (first ∷ second ∷ []) two) c.end.ensures.trace

@@ -2,7 +2,7 @@
 use Rattle.std.proofs.Common.{◌≡◌, ℕ, List, ◌-◌, arith, refl, sym, ap, subst, ◌∙◌, length, drop}
 use Rattle.std.specs.Prelude.{vec_len}
 use Rattle.std.proofs.lemmas.List.{length-drop, length-append, take_all}
-use Rattle.cxl_codec.specs.Scanning.{IsBehind}
+use Rattle.event_scan.specs.Scanning.{IsBehind}
 use Rattle.trace_stream.proofs.Scanned.{behind_all}
 use Rattle.trace_stream.proofs.waiting.Waiting.cut_below.Goals as goal
 
