@@ -5,7 +5,7 @@ use Rattle.cxl_message.specs.declared.events.Event.{Event}
 use Rattle.cxl_message.specs.Script.{ScriptValue}
 use Rattle.cxl_codec.specs.Traces.{trace_bytes}
 use Rattle.coherence_model.specs.Driven.{driven_trace}
-use Rattle.driven_laws.specs.Scripts.{IsPlain}
+use Rattle.plain_laws.specs.Plain.{IsPlain}
 use Rattle.machine.specs.MachineRecord.{MachineRecord}
 use Rattle.machine.specs.Stands.{StandsFor}
 use Rattle.trace_stream.specs.Writing.{BreaksOff, GoesOn, Writing}

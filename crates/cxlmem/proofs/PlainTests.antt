@@ -6,7 +6,8 @@ use Rattle.std.proofs.lemmas.Bool.{and_from, and_parts, eqb-true, leb-true, lt-l
 use Rattle.std.proofs.lemmas.List.{nil_from_length}
 use Rattle.cxl_message.specs.declared.events.Op.{Op}
 use Rattle.cxl_message.specs.Script.{ScriptValue}
-use Rattle.driven_laws.specs.Scripts.{IsPlain, is_placed}
+use Rattle.driven_laws.specs.Scripts.{is_placed}
+use Rattle.plain_laws.specs.Plain.{IsPlain}
 use Rattle.script_text.specs.Script.{IsScript, op_fits}
 use Rattle.cxlmem.specs.Drives.{has_no_whole, is_plain_script}
 

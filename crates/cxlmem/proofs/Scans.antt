@@ -11,8 +11,8 @@ use Rattle.cxl_message.specs.Script.{ScriptValue}
 use Rattle.coherence_model.specs.Choices.{Stream, is_all_begun, streams_from, streams_of}
 use Rattle.coherence_model.specs.Streams.{begun_count}
 use Rattle.coherence_model.specs.Traces.{events_of}
-use Rattle.driven_laws.specs.Laws.{next_offer}
-use Rattle.driven_laws.proofs.Reached.{stream_at}
+use Rattle.plain_laws.specs.Laws.{next_offer}
+use Rattle.commit_laws.proofs.Streams.{stream_at}
 use Rattle.cxlmem.specs.Driver.{IsCounted, IsNext}
 
 -- ---- lists

@@ -25,11 +25,12 @@ use Rattle.coherence_model.specs.Streams.{begins_for, begun_count}
 use Rattle.coherence_model.specs.Traces.{events_of}
 use Rattle.driven_laws.proofs.Ending.{has_choice, reached_is_short}
 use Rattle.driven_laws.proofs.OnTheWay.{way_begins, way_ends, way_goes_on}
-use Rattle.driven_laws.proofs.OwnStreams.{in_order_parts}
-use Rattle.driven_laws.proofs.PlainRuns.{plain_runs_are_built}
-use Rattle.driven_laws.proofs.Reached.{IsOfScript, reached_scripted}
+use Rattle.commit_laws.proofs.OwnStreams.{in_order_parts}
+use Rattle.plain_laws.proofs.PlainRuns.{plain_runs_are_built}
+use Rattle.commit_laws.proofs.Scripted.{IsOfScript}
+use Rattle.driven_laws.proofs.Reached.{reached_scripted}
 use Rattle.driven_laws.specs.Reached.{IsOnTheWay}
-use Rattle.driven_laws.specs.Scripts.{IsPlain}
+use Rattle.plain_laws.specs.Plain.{IsPlain}
 use Rattle.machine.specs.Built.{IsBuiltRun, first_broken_as_built, is_built, is_built_after, is_built_run, verdict}
 use Rattle.machine.specs.HostChanges.{one_more}
 use Rattle.machine.specs.MachineRecord.{MachineRecord}

@@ -6,7 +6,7 @@ use Rattle.cxl_message.specs.Script.{ScriptValue}
 use Rattle.coherence_model.specs.Driven.{driven_trace, event_bound}
 use Rattle.coherent_runs.specs.Coherent.{IsCoherent}
 use Rattle.cxl_codec.specs.Traces.{trace_bytes}
-use Rattle.driven_laws.specs.Commits.{CommitsEach}
+use Rattle.commit_laws.specs.Commits.{CommitsEach}
 use Rattle.cxl_message.specs.Events.{is_whole}
 use Rattle.script_text.specs.declared.refusals.ScriptReason.{ScriptReason}
 use Rattle.script_text.specs.Failures.{FailsAt}

@@ -8,8 +8,8 @@ ghost use Rattle.coherence_model.specs.Choices.{Stream, choices, is_done as all_
 ghost use Rattle.coherence_model.specs.Driven.{driven_trace};
 ghost use Rattle.coherence_model.specs.Streams.{begun_count};
 ghost use Rattle.coherence_model.specs.Traces.{events_of};
-ghost use Rattle.driven_laws.specs.Laws.{next_offer as offers_of};
-ghost use Rattle.driven_laws.specs.Scripts.{IsPlain};
+ghost use Rattle.plain_laws.specs.Laws.{next_offer as offers_of};
+ghost use Rattle.plain_laws.specs.Plain.{IsPlain};
 ghost use Rattle.machine.specs.Stands.{StandsFor};
 ghost use Rattle.cxlmem.specs.Driver.{IsAt, IsNext};
 

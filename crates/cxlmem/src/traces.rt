@@ -1,7 +1,7 @@
 // The driven trace of a plain script, written as it is driven.
 ghost use Rattle.std.specs.Prelude.{◌≡◌, ◌≢◌, ◌+◌, ◌^◌, ◌<◌, ◌≤◌, ◌⊎◌, [], IsErrOf, List, OnErr, OnOk, Option, reverse, ℕ};
 ghost use Rattle.coherence_model.specs.Driven.{driven_trace};
-ghost use Rattle.driven_laws.specs.Scripts.{IsPlain};
+ghost use Rattle.plain_laws.specs.Plain.{IsPlain};
 ghost use Rattle.machine.specs.Stands.{StandsFor};
 ghost use Rattle.outside_io.specs.Counts.{TellsFaults};
 ghost use Rattle.trace_stream.specs.Buffers.{reach};

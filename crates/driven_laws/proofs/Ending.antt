@@ -1,9 +1,9 @@
 -- Driving ends: what isn't done has a choice, and a reached trace has at most so many events.
-use Rattle.std.proofs.Common.{◌≡◌, ℕ, zero, suc, ◌+◌, ◌-◌, ◌*◌, ◌<◌, ◌≤◌, Bool, true, false, cond, List, [], ◌∷◌, ◌++◌, length, Option, Some, None, refl, ap, sym, subst, ◌∙◌, arith, inl, inr}
-use Rattle.std.specs.Prelude.{count_by, flat_map, not, option_map, option_to_list, slice_get, ◌%◌, ◌&&◌}
+use Rattle.std.proofs.Common.{◌≡◌, ℕ, zero, suc, ◌+◌, ◌<◌, ◌≤◌, Bool, true, false, cond, List, [], ◌∷◌, ◌++◌, length, Option, Some, None, refl, ap, sym, subst, ◌∙◌, arith, inl, inr}
+use Rattle.std.specs.Prelude.{flat_map, not, option_map, option_to_list, slice_get, ◌%◌, ◌&&◌}
 use Rattle.std.specs.List.{list_all}
 use Rattle.std.specs.Option.{option_map_or}
-use Rattle.std.proofs.Math.Nat.{mod-lt, mul-le-mul_left}
+use Rattle.std.proofs.Math.Nat.{mod-lt}
 use Rattle.std.proofs.lemmas.Bool.{and_from, cases_Bool, eq-eqb, eqb-false, false≢true, ltb-true}
 use Rattle.std.proofs.lemmas.List.{length-append}
 use Rattle.std.proofs.lemmas.Option.{none-some, slice_get_cases}
@@ -12,7 +12,7 @@ use Rattle.cxl_message.specs.declared.events.Event.{Event}
 use Rattle.cxl_message.specs.declared.events.Op.{Op}
 use Rattle.cxl_message.specs.Script.{ScriptValue}
 use Rattle.coherence_model.specs.Choices.{Stream, choices, is_all_begun, is_done, operation_step, stream_step, streams_of}
-use Rattle.coherence_model.specs.Driven.{driven_on, driven_trace, event_bound, go_on, operation_count, pick_from, pick_now, picks_left}
+use Rattle.coherence_model.specs.Driven.{driven_on, driven_trace, event_bound, go_on, pick_from, pick_now, picks_left}
 use Rattle.coherence_model.specs.Emission.{Emission}
 use Rattle.coherence_model.specs.Next.{event_with, next_steps}
 use Rattle.coherence_model.specs.Pending.{is_pending}
@@ -20,17 +20,18 @@ use Rattle.coherence_model.specs.Rows.{emission}
 use Rattle.coherence_model.specs.Runs.{is_allowed}
 use Rattle.coherence_model.specs.Streams.{begun_count}
 use Rattle.coherence_model.specs.Traces.{events_of}
-use Rattle.coherence_model.specs.Weight.{is_operation}
 use Rattle.progress_laws.proofs.SnoopTakes.{snoops_known}
 use Rattle.progress_laws.proofs.StuckOpen.{pending_goes_on}
 use Rattle.progress_laws.proofs.StuckOperations.{operation_begins}
-use Rattle.weight_laws.proofs.Lengths.{runs_are_short}
-use Rattle.driven_laws.specs.Laws.{ChoicesStand, DrivenIsCommitted, DrivingEnds, ReachedAreShort}
+use Rattle.commit_laws.proofs.Followed.{following_is_complete}
+use Rattle.commit_laws.proofs.Lengths.{begun_within}
+use Rattle.commit_laws.proofs.Rest.{at_rest_no_stream_waits}
+use Rattle.commit_laws.proofs.Streams.{IsStreamOf, each_at, host_there, streams_are}
+use Rattle.length_laws.proofs.Short.{following_is_short}
+use Rattle.driven_laws.specs.Laws.{ChoicesStand, DrivenIsCommitted, DrivingEnds, EachIsCommitted, ReachedAreShort}
 use Rattle.driven_laws.specs.Reached.{IsReached}
 use Rattle.driven_laws.specs.Scripts.{IsDrivable}
-use Rattle.driven_laws.proofs.BegunCounts.{begun_within, few_operations}
-use Rattle.driven_laws.proofs.Done.{each_is_committed, no_stream_waits}
-use Rattle.driven_laws.proofs.Reached.{IsStreamOf, cause_is_fit, driving_goes_on, driving_reaches, driving_stops, each_at, host_there, in_order, reached_is_run, streams_are}
+use Rattle.driven_laws.proofs.Reached.{cause_is_fit, driving_goes_on, driving_reaches, driving_stops, in_order, reached_is_followed, reached_is_run}
 
 -- ---- what isn't done has a choice
 
@@ -84,8 +85,8 @@ stream_goes_on script can t reached idle stuck y of op is =
     let mine = events_of y.host t in
     let i = begun_count y.number mine in
     let cause = Cause.Op y.number i op in
-    let waits = no_stream_waits script can t reached idle y.number y.host of.host in
-    let host = host_there script can y.number y.host of.host in
+    let waits = at_rest_no_stream_waits setup script.opening can.limits t run idle y.number y.host of.host in
+    let host = host_there setup can.limits y.number y.host of.host in
     let order = and_from _ _ (and_from _ _ (eq-eqb i i refl) (in_order script can y.number y.operations op mine of.operations is)) (ap not waits) in
     let begins = operation_begins setup script.opening can.limits t run (snoops_known setup script.opening can.limits t run) stuck y.host host (ltb-true y.host setup.hosts host) y.number i op
     (cause_is_fit script can y.number y.host i y.operations op of.host of.operations is) order in
@@ -98,7 +99,7 @@ left_goes_on :
     (script : ScriptValue) → IsDrivable script → (t : List Event) → IsReached script t → is_pending script.setup t ≡ false → next_steps script.setup script.opening t ≡ []
     → (y : Stream) → IsStreamOf script y → is_all_begun t y ≡ false → 1 ≤ length (stream_step script t y)
 left_goes_on script can t reached idle stuck y of fails =
-    let within = begun_within script can t reached y of in
+    let within = begun_within script t (reached_is_run script can t reached) (reached_is_followed script can t reached) y of in
     let less = left_over (begun_count y.number (events_of y.host t)) (length y.operations) within (eqb-false _ _ fails) in
     elim ((slice_get_cases y.operations (begun_count y.number (events_of y.host t))).1) [
       | inl there ↦ stream_goes_on script can t reached idle stuck y of there.0 there.2
@@ -145,16 +146,9 @@ picks_some p (c ∷ cs) some =
 
 -- ---- how long a reached trace is
 
--- as many times the greater
-scaled : (k n m : ℕ) → n ≤ m → k * n ≤ k * m
-scaled k n m le = mul-le-mul_left k le
-
 -- a reached trace has at most as many events as the bound
 pub reached_is_short : ReachedAreShort
-reached_is_short script can t reached =
-    let run = runs_are_short script.setup script.opening can.limits t (reached_is_run script can t reached) in
-    let few = scaled (108 * script.setup.hosts - 3) (count_by (λ e. is_operation e.cause) t) (operation_count script) (few_operations script can t reached) in
-    omega arith
+reached_is_short script can t reached = following_is_short script can.limits can.lists t (reached_is_run script can t reached) (reached_is_followed script can t reached)
 
 -- ---- driving ends
 
@@ -193,6 +187,10 @@ ends script can (suc n) picks t reached enough =
 -- the driven trace is done
 pub driving_ends : DrivingEnds
 driving_ends script can = ends script can (event_bound script) script.picks [] tt (omega arith)
+
+-- each operation of a done trace is committed
+pub each_is_committed : EachIsCommitted
+each_is_committed script can t reached done = following_is_complete script can.limits can.lists t (reached_is_run script can t reached) (reached_is_followed script can t reached) done
 
 -- so the driven trace has each operation committed
 pub driven_is_committed : DrivenIsCommitted

@@ -1,4 +1,3 @@
 pub mod Scripts
 pub mod Reached
-pub mod Commits
 pub mod Laws

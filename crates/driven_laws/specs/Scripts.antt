@@ -1,5 +1,5 @@
--- Which scripts the laws speak of: those that can be driven, and of these the plain ones.
-use Rattle.std.specs.Prelude.{Bool, IsTrue, length, nat_lt, not, ℕ, ◌&&◌, ◌≡◌, ◌≤◌}
+-- Which scripts the laws speak of: those that can be driven.
+use Rattle.std.specs.Prelude.{Bool, IsTrue, length, nat_lt, ℕ, ◌&&◌, ◌≡◌, ◌≤◌}
 use Rattle.std.specs.List.{list_all}
 use Rattle.cxl_message.specs.declared.events.Op.{Op}
 use Rattle.cxl_message.specs.Events.{line_of}
@@ -7,7 +7,6 @@ use Rattle.cxl_message.specs.Formed.{place_exists}
 use Rattle.cxl_message.specs.Script.{ScriptValue}
 use Rattle.cxl_message.specs.Setup.{IsWithinLimits}
 use Rattle.coherence_model.specs.Driven.{operation_count}
-use Rattle.cxl_message.specs.Events.{is_whole}
 
 -- whether an operation's line is below so many, and a Word's place is one of the eight (own rule)
 abbrev pub is_placed : ℕ → Op → Bool
@@ -23,11 +22,3 @@ pub record IsDrivable (script : ScriptValue) : Type 0 where
   pub lists : length script.operations ≡ length script.setup.streams
   pub operations : EachOperation (is_placed script.setup.lines) script
   pub count : operation_count script ≤ 65536
-
--- a plain script: one host, as many ways and filter entries as lines, and no store of a whole line
-pub record IsPlain (script : ScriptValue) : Type 0 where
-  pub drivable : IsDrivable script
-  pub hosts : script.setup.hosts ≡ 1
-  pub entries : script.setup.lines ≤ script.setup.entries
-  pub ways : script.setup.lines ≤ script.setup.ways
-  pub no_whole : EachOperation (λ op. not (is_whole op)) script

@@ -1,13 +1,31 @@
 //! Laws of the traces that driving a script comes to, whichever choices are picked.
 #![tactic(auto)]
 
-ghost use Rattle.driven_laws.specs.Laws.{ChoicesStand, DrivenIsCommitted, DrivingEnds, DrivingReaches, EachIsCommitted, PlainChoicesAreBuilt, PlainOffersAreChoices, PlainRunsAreBuilt, PlainStepsAreBuilt, ReachedAreRuns, ReachedAreShort, WayBegins, WayEnds, WayGoesOn};
+ghost use Rattle.driven_laws.specs.Laws.{
+  ChoicesStand,
+  DrivenIsCommitted,
+  DrivingEnds,
+  DrivingReaches,
+  EachIsCommitted,
+  ReachedAreRuns,
+  ReachedAreShort,
+  ReachedIsFollowed,
+  WayBegins,
+  WayEnds,
+  WayGoesOn,
+};
 
 /// Driving a script comes to traces each event of which was picked from the choices after those before it, and each of
 /// them is a run: every choice is an allowed event (own rule: the choices).
 pub fn reached_traces_are_runs()
     ensures reached { DrivingReaches }
     ensures runs { ReachedAreRuns }
+{}
+
+/// Of a trace that driving came to, the operations that each stream began are the first of the script's. So what holds of every run
+/// that follows a script holds of it (own rule: the choices).
+pub fn reached_traces_follow()
+    ensures { ReachedIsFollowed }
 {}
 
 /// A trace that driving came to and that isn't done has a choice: a next step where something is pending, else a next
@@ -33,15 +51,4 @@ pub fn driving_stays_on_its_way()
     ensures begins { WayBegins }
     ensures goes_on { WayGoesOn }
     ensures ends { WayEnds }
-{}
-
-/// A plain script has one host, as many ways and filter entries as lines, and no store of a whole line. Each trace that
-/// driving it comes to is a run of built rows, and each next step after it is of a built row. The offer of a stream's next
-/// operation is the event of the stream's choice, or a refusal where it has none. So the choices are the built steps, and
-/// then what the streams are offered (own rule).
-pub fn plain_scripts_are_built()
-    ensures runs { PlainRunsAreBuilt }
-    ensures steps { PlainStepsAreBuilt }
-    ensures offers { PlainOffersAreChoices }
-    ensures choices { PlainChoicesAreBuilt }
 {}

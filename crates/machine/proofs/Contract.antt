@@ -24,7 +24,7 @@ use Rattle.machine.proofs.Moves.{machine_follows}
 use Rattle.machine.proofs.NextSteps.{next_is}
 use Rattle.machine.proofs.Sides.{Tied, emits_is, good_by_profile}
 use Rattle.machine.proofs.StepBounds.{count_is_exact}
-use Rattle.machine.proofs.StepLists.{each_below}
+use Rattle.bound_laws.proofs.Joined.{each_below}
 use Rattle.machine.proofs.TableLemmas.{any_table}
 use Rattle.machine.proofs.Verdicts.{breaks_as_built}
 

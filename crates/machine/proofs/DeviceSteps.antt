@@ -27,7 +27,8 @@ use Rattle.machine.specs.Built.{is_built_after}
 use Rattle.machine.specs.MachineRecord.{MachineRecord}
 use Rattle.machine.specs.Stands.{kept_of, kept_task}
 use Rattle.machine.specs.Steps.{finish_steps, request_steps, return_steps, steps_of}
-use Rattle.machine.proofs.StepLists.{each_below, filter-flat_map, flat_map-filter, flat_map-flat_map, flat_map-none, flat_map-same}
+use Rattle.bound_laws.proofs.Joined.{each_below}
+use Rattle.machine.proofs.StepLists.{filter-flat_map, flat_map-filter, flat_map-flat_map, flat_map-none, flat_map-same}
 use Rattle.machine.proofs.StepsAsBuilt.{step_is, unbuilt_step}
 use Rattle.machine.proofs.Verdicts.{EmitsAsBuilt}
 

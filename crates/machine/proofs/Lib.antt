@@ -8,7 +8,6 @@ mod Verdicts
 mod BuiltRuns
 mod StepLists
 mod WireTables
-mod Rooms
 mod Sides
 mod Moves
 mod Candidates

@@ -23,7 +23,7 @@ use Rattle.machine.specs.MachineRecord.{machine_after, wires_sent, wires_taken}
 use Rattle.machine.specs.Stands.{kept_device, kept_host, kept_of, kept_wire}
 use Rattle.machine.specs.Tables.{changed_at}
 use Rattle.machine.proofs.BuiltRuns.{goes_on, is_run_of_built}
-use Rattle.machine.proofs.Rooms.{in_flight_fits}
+use Rattle.bound_laws.proofs.Rooms.{in_flight_fits}
 use Rattle.machine.proofs.Sides.{Tied}
 use Rattle.machine.proofs.TableLemmas.{change_table, same_table}
 use Rattle.machine.proofs.WireTables.{SendsWithin, TakesWithin, channel_on, host_on, left_on, wires_after_cause, wires_after_sends}

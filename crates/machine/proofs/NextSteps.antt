@@ -28,7 +28,8 @@ use Rattle.machine.proofs.BuiltRuns.{is_run_of_built}
 use Rattle.machine.proofs.Candidates.{device_return_good, finish_good, host_return_good, start_good, take_good}
 use Rattle.machine.proofs.DeviceSteps.{no_serves, request_is, return_is, tasks_are}
 use Rattle.machine.proofs.Sides.{Tied, emits_is}
-use Rattle.machine.proofs.StepLists.{each_below, filter-flat_map, flat_map-same}
+use Rattle.bound_laws.proofs.Joined.{each_below}
+use Rattle.machine.proofs.StepLists.{filter-flat_map, flat_map-same}
 use Rattle.machine.proofs.StepsAsBuilt.{host_acts_are, takes_are}
 use Rattle.machine.proofs.TableLemmas.{get_table}
 use Rattle.machine.proofs.Verdicts.{EmitsAsBuilt}

@@ -1,5 +1,5 @@
 -- How many next steps there are: few enough that their count is exact.
-use Rattle.std.proofs.Common.{◌≡◌, ℕ, ◌+◌, ◌<◌, ◌≤◌, Bool, true, false, List, [], ◌++◌, length, Option, Some, None, cond, refl, ap, arith}
+use Rattle.std.proofs.Common.{◌≡◌, ℕ, ◌+◌, ◌<◌, ◌≤◌, List, ◌++◌, length, refl, ap, arith}
 use Rattle.std.specs.Prelude.{flat_map, option_map, option_to_list}
 use Rattle.std.proofs.lemmas.List.FromFn.{length-range_with_len}
 use Rattle.std.proofs.lemmas.List.{length-append}
@@ -19,6 +19,8 @@ use Rattle.coherence_model.specs.Next.{channels, receiver, tag_or_zero}
 use Rattle.coherence_model.specs.Traces.{device, events_of}
 use Rattle.credit_laws.proofs.Laws.{buffered_and_owed_are_held, held_within_credits}
 use Rattle.step_laws.proofs.Counts.{each_holds}
+use Rattle.bound_laws.proofs.Joined.{each_below, joined_short, one_at_most, one_if_may}
+use Rattle.bound_laws.proofs.Rooms.{in_flight_fits}
 use Rattle.machine.specs.Built.{IsBuiltRun}
 use Rattle.machine.specs.MachineRecord.{MachineRecord, waiting_on}
 use Rattle.machine.specs.Stands.{kept_of, kept_task}
@@ -26,22 +28,10 @@ use Rattle.machine.specs.Steps.{finish_steps, host_steps, message_steps, next_of
 use Rattle.machine.proofs.BuiltRuns.{is_run_of_built}
 use Rattle.machine.proofs.Lookups.{waiting_is}
 use Rattle.machine.proofs.NextSteps.{desk_requests}
-use Rattle.machine.proofs.Rooms.{in_flight_fits}
-use Rattle.machine.proofs.StepLists.{each_below, joined_short}
-
--- an option is one member at most
-one_at_most : {X : Type 0} (o : Option X) → length (option_to_list o) ≤ 1
-one_at_most None = omega arith
-one_at_most (Some x) = omega arith
 
 -- a cause has one step at most
 one_step : (M : MachineRecord) (g : ℕ) (cause : Cause) → length (steps_of M g cause) ≤ 1
 one_step M g cause = one_at_most (option_map _ _)
-
--- so is a list of one, or none
-one_if_may : (b : Bool) (xs : List Event) → length xs ≤ 1 → length (cond b xs []) ≤ 1
-one_if_may true xs h = h
-one_if_may false xs h = omega arith
 
 -- a waiting message has one take at most
 one_take : (M : MachineRecord) (h : ℕ) (c : Channel) (n : Message) → length (message_steps M h c n) ≤ 1

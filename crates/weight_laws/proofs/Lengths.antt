@@ -36,7 +36,7 @@ fewer : (k w w' n ops : ℕ) → suc w' ≤ w → w + n ≤ k * ops → w' + suc
 fewer k w w' n ops lowered old = omega (arith, lowered, old)
 
 -- the weight and the number of events together
-weight_and_length : (setup : Configuration) (opening : List (Line × Bytes64)) → IsWithinLimits setup → (t : List Event) → IsRun setup opening t → weight setup t + length t ≤ (108 * setup.hosts - 3) * count_by (λ (e : Event). is_operation e.cause) t
+pub weight_and_length : (setup : Configuration) (opening : List (Line × Bytes64)) → IsWithinLimits setup → (t : List Event) → IsRun setup opening t → weight setup t + length t ≤ (108 * setup.hosts - 3) * count_by (λ (e : Event). is_operation e.cause) t
 weight_and_length setup opening limits [] run = let none = first_weight setup in omega arith
 weight_and_length setup opening limits (e ∷ past) run =
     let runs = and_parts (is_run setup opening past) (is_allowed setup opening past e) run in

@@ -1,6 +1,5 @@
 -- The commits of a stream name its operations that are done, and at the end all are.
-use Rattle.driven_laws.proofs.Done.{each_is_committed}
-use Rattle.driven_laws.proofs.Ending.{driven_is_committed}
+use Rattle.driven_laws.proofs.Ending.{driven_is_committed, each_is_committed}
 use Rattle.driven_laws.proofs.each_operation_is_committed.Goals as goal
 
 pub returns-clause-done : goal.returns-clause-done

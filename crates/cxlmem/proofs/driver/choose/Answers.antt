@@ -2,8 +2,8 @@
 use Rattle.std.proofs.Common.{arith, length, ◌≡◌}
 use Rattle.std.specs.Prelude.{flat_map}
 use Rattle.coherence_model.specs.Choices.{choices, streams_of}
-use Rattle.driven_laws.proofs.PlainChoices.{plain_choices_are_built}
-use Rattle.driven_laws.specs.Laws.{next_offer}
+use Rattle.plain_laws.proofs.PlainChoices.{plain_choices_are_built}
+use Rattle.plain_laws.specs.Laws.{next_offer}
 use Rattle.machine.specs.Built.{built_steps}
 use Rattle.cxlmem.proofs.Turns.{first_offered, first_step}
 use Rattle.cxlmem.proofs.driver.choose.Goals as goal

@@ -2,7 +2,7 @@
 use Rattle.std.proofs.Common.{ap, arith, length, List, ◌∙◌, ◌≡◌, ℕ}
 use Rattle.std.specs.Prelude.{flat_map, slice_get}
 use Rattle.coherence_model.specs.Choices.{streams_of}
-use Rattle.driven_laws.specs.Laws.{next_offer}
+use Rattle.plain_laws.specs.Laws.{next_offer}
 use Rattle.cxlmem.proofs.Scans.{first_more, first_stops, offers_end, streams_end}
 use Rattle.cxlmem.proofs.driver.first_offer.Goals as goal
 

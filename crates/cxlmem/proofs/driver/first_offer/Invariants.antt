@@ -3,7 +3,7 @@ use Rattle.std.specs.List.{flat_map}
 use Rattle.std.specs.Prelude.{slice_get}
 use Rattle.cxl_message.specs.declared.events.Event.{Event as AnEvent}
 use Rattle.coherence_model.specs.Choices.{streams_of}
-use Rattle.driven_laws.specs.Laws.{next_offer}
+use Rattle.plain_laws.specs.Laws.{next_offer}
 use Rattle.cxlmem.specs.Driver.{IsAt}
 use Rattle.cxlmem.proofs.driver.first_offer.Given as goal
 

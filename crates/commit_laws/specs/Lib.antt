@@ -1,0 +1,4 @@
+pub mod Begun
+pub mod Commits
+pub mod OwnLaws
+pub mod Laws
