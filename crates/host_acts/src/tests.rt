@@ -1,0 +1,33 @@
+use super::*;
+use cxl_message::{Act, BiTag, Channel, Line, Message, Setup, SnpOp, Span};
+use host_rows::{step_act, step_take};
+use host_tables::HostTables;
+use std::test::Fail;
+
+#[test]
+fn acts_are_counted_and_picked_in_their_order(rt: HostRuntime) -> Result<(), Fail> {
+    let setup = Setup::new(1, 8, 4, 4, 2, 2, &[0])?;
+    let mut host = HostTables::open(rt.alloc(), &setup, 0)?;
+    assert_eq!(rt; act_count(&host), 0);
+    assert_eq!(rt; act_at(&host, 0), None);
+    assert_eq!(rt; weight(&host), 0);
+    let op = SnpOp::Inv;
+    let bitag = BiTag(3);
+    let line = Line(3);
+    let span = Span::One;
+    let snoop = Message::BiSnp {
+        op,
+        bitag,
+        line,
+        span,
+    };
+    step_take(&mut host, 0, &snoop)?;
+    assert_eq!(rt; act_count(&host), 1);
+    assert_eq!(rt; act_at(&host, 0), Some(Act::Answer(line)));
+    assert_eq!(rt; act_at(&host, 1), None);
+    step_act(&mut host, &Act::Answer(line))?;
+    assert_eq!(rt; act_count(&host), 1);
+    assert_eq!(rt; act_at(&host, 0), Some(Act::HostReturn(Channel::BiSnp)));
+    assert_eq!(rt; weight(&host), 2);
+    Ok(())
+}

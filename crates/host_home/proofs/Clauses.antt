@@ -1,0 +1,140 @@
+-- The public clauses of an agent follow from what its body does by its record, by the laws of the record.
+use Rattle.std.proofs.Common.{List, [], ap, length, refl, sym, ℕ, ◌<◌, ◌∙◌, ◌∷◌, ◌≡◌}
+use Rattle.std.specs.Prelude.{Err, IfOk, Ok, Result, is_some, slice_get}
+use Rattle.std.specs.List.{list_any}
+use Rattle.std.proofs.lemmas.Bool.{lt-ltb}
+use Rattle.cxl_message.specs.declared.events.Act.{Act}
+use Rattle.cxl_message.specs.declared.events.Cause.{Cause}
+use Rattle.cxl_message.specs.declared.events.Event.{Event}
+use Rattle.cxl_message.specs.Setup.{Configuration, IsWithinLimits}
+use Rattle.coherence_model.specs.Cache.{copy}
+use Rattle.coherence_model.specs.Emission.{Emission}
+use Rattle.coherence_model.specs.Pending.{host_pending}
+use Rattle.coherence_model.specs.Refusals.{Answer, host_answer}
+use Rattle.coherence_model.specs.Snoops.{is_snooped}
+use Rattle.coherence_model.specs.Streams.{begun_count, stream_waits}
+use Rattle.coherence_model.specs.Transactions.{is_open}
+use Rattle.coherence_model.specs.Weight.{host_weight}
+use Rattle.host_record.specs.HostRecord.{stream_in, view_in}
+use Rattle.host_record.specs.Stands.{acts_after, weight_in}
+use Rattle.host_record.specs.Tables.{lookup}
+use Rattle.host_record.specs.View.{View, view_of}
+use Rattle.host_record.specs.ViewRows.{snoop_of_line}
+use Rattle.host_record.specs.Ways.{copy_in}
+use Rattle.host_record.proofs.Opened.{records_begin}
+use Rattle.host_laws.proofs.Laws.{own_runs_go_on, records_act, records_answer, records_follow, records_view}
+use Rattle.host_laws.proofs.Readings.{records_open, records_pend, records_weigh}
+use Rattle.host_acts.specs.Counting.{acts_of_agent}
+use Rattle.host_home.specs.Contract.{StandsFor, answered_by}
+use Rattle.host_rows.specs.declared.answers.HostRefusal.{HostRefusal}
+use Rattle.host_rows.specs.Answers.{as_result}
+use Rattle.host_tables.specs.Agent.{AgentRecord, agent_after, event_of, opened_agent}
+
+pub opened_stands : (agent : AgentRecord) (setup : Configuration) (h : ℕ) → IsWithinLimits setup → h < setup.hosts → agent ≡ opened_agent setup h → StandsFor agent setup h []
+opened_stands agent setup h limits low is = record {
+  within = limits;
+  host = lt-ltb h setup.hosts low;
+  run = refl;
+  kept = is ∙ ap {B = AgentRecord} (λ k. record { setup = setup; host = h; kept = k }) (records_begin setup h);
+}
+
+-- ---- answers
+
+pub would_answers :
+    (agent : AgentRecord) (cause : Cause) (setup : Configuration) (h : ℕ) (mine : List Event) → StandsFor agent setup h mine
+    → answered_by agent cause ≡ as_result (host_answer setup h cause mine)
+would_answers agent cause setup h mine s = ap (λ x. answered_by x cause) s.kept ∙ ap as_result (records_answer setup [] s.within h s.host mine s.run cause)
+
+-- an answer that is Ok is an emission
+abbrev ok_or : Emission → Result Emission HostRefusal → Emission
+ok_or x (Ok w) = w
+ok_or x (Err refusal) = x
+
+emits_by : (a : Answer) (w : Emission) → as_result a ≡ Ok w → a ≡ Answer.Emits w
+emits_by (Answer.Emits x) w is = ap (λ r. Answer.Emits (ok_or x r)) is
+emits_by Answer.NoSuchLine w is = cc
+emits_by Answer.Again w is = cc
+emits_by Answer.NoTag w is = cc
+emits_by Answer.NoWay w is = cc
+emits_by (Answer.NoCredit c) w is = cc
+emits_by (Answer.Broken rule) w is = cc
+
+event_stands :
+    (old new : AgentRecord) (cause : Cause) (w : Emission) (setup : Configuration) (h : ℕ) (mine : List Event) → StandsFor old setup h mine
+    → answered_by old cause ≡ Ok w → new ≡ agent_after cause w old → StandsFor new setup h (event_of h cause w ∷ mine)
+event_stands old new cause w setup h mine s ok is =
+    let emits = emits_by (host_answer setup h cause mine) w (sym (would_answers old cause setup h mine s) ∙ ok) in
+    let run = own_runs_go_on setup [] s.within h s.host mine s.run [] s.run cause w emits in
+    record {
+      within = s.within;
+      host = s.host;
+      run = run;
+      kept = is ∙ ap (agent_after cause w) s.kept
+          ∙ ap {B = AgentRecord} (λ k. record { setup = setup; host = h; kept = k }) (sym (records_follow setup [] s.within h s.host (event_of h cause w) mine run));
+    }
+
+-- the same by the result of the step
+pub step_stands :
+    (old new : AgentRecord) (cause : Cause) (r : Result Emission HostRefusal) (setup : Configuration) (h : ℕ) (mine : List Event) → StandsFor old setup h mine
+    → r ≡ answered_by old cause → IfOk r (λ w. new ≡ agent_after cause w old) → IfOk r (λ w. StandsFor new setup h (event_of h cause w ∷ mine))
+step_stands old new cause (Ok w) setup h mine s is changed = event_stands old new cause w setup h mine s (sym is) changed
+step_stands old new cause (Err refusal) setup h mine s is changed = tt
+
+-- ---- acts
+
+pub acts_are :
+    (agent : AgentRecord) (setup : Configuration) (h : ℕ) (mine : List Event) → StandsFor agent setup h mine → acts_of_agent agent ≡ acts_after setup h mine
+acts_are agent setup h mine s = ap acts_of_agent s.kept ∙ records_act setup [] s.within h s.host mine s.run
+
+pub count_stands :
+    (agent : AgentRecord) (setup : Configuration) (h : ℕ) (mine : List Event) → StandsFor agent setup h mine
+    → length (acts_of_agent agent) ≡ length (acts_after setup h mine)
+count_stands agent setup h mine s = ap (λ (xs : List Act). length xs) (acts_are agent setup h mine s)
+
+pub pick_stands :
+    (agent : AgentRecord) (k : ℕ) (setup : Configuration) (h : ℕ) (mine : List Event) → StandsFor agent setup h mine
+    → slice_get (acts_of_agent agent) k ≡ slice_get (acts_after setup h mine) k
+pick_stands agent k setup h mine s = ap (λ (xs : List Act). slice_get xs k) (acts_are agent setup h mine s)
+
+-- ---- what is read
+
+-- all that the rows read of the agent
+view_read :
+    (agent : AgentRecord) (setup : Configuration) (h : ℕ) (mine : List Event) → StandsFor agent setup h mine → view_in agent.kept ≡ view_of setup h mine
+view_read agent setup h mine s = ap (λ (x : AgentRecord). view_in x.kept) s.kept ∙ records_view setup [] s.within h s.host mine s.run
+
+pub copy_is :
+    (agent : AgentRecord) (a : ℕ) (setup : Configuration) (h : ℕ) (mine : List Event) → StandsFor agent setup h mine
+    → (copy_in agent.kept.ways a).state ≡ (copy setup a mine).state
+copy_is agent a setup h mine s = ap (λ (v : View). (v.copy a).state) (view_read agent setup h mine s)
+
+pub stream_is :
+    (agent : AgentRecord) (t : ℕ) (setup : Configuration) (h : ℕ) (mine : List Event) → StandsFor agent setup h mine
+    → (stream_in agent.kept.streams t).begun ≡ begun_count t mine
+stream_is agent t setup h mine s = ap (λ (v : View). v.begun t) (view_read agent setup h mine s)
+
+pub waits_is :
+    (agent : AgentRecord) (t : ℕ) (setup : Configuration) (h : ℕ) (mine : List Event) → StandsFor agent setup h mine
+    → (stream_in agent.kept.streams t).waits ≡ stream_waits t mine
+waits_is agent t setup h mine s = ap (λ (v : View). v.waits t) (view_read agent setup h mine s)
+
+pub open_is :
+    (agent : AgentRecord) (a : ℕ) (setup : Configuration) (h : ℕ) (mine : List Event) → StandsFor agent setup h mine
+    → is_some (lookup agent.kept.line_tags a) ≡ is_open a mine
+open_is agent a setup h mine s =
+    ap (λ (x : AgentRecord). is_some (lookup x.kept.line_tags a)) s.kept ∙ records_open setup [] s.within h s.host mine s.run a
+
+pub snooped_is :
+    (agent : AgentRecord) (a : ℕ) (setup : Configuration) (h : ℕ) (mine : List Event) → StandsFor agent setup h mine
+    → is_some (snoop_of_line agent.kept.snoops a) ≡ is_snooped a mine
+snooped_is agent a setup h mine s = ap (λ (v : View). is_some (snoop_of_line v.snoops a)) (view_read agent setup h mine s)
+
+pub pending_is :
+    (agent : AgentRecord) (setup : Configuration) (h : ℕ) (mine : List Event) → StandsFor agent setup h mine
+    → list_any (λ b. b) agent.kept.busy ≡ host_pending setup mine
+pending_is agent setup h mine s =
+    ap (λ (x : AgentRecord). list_any (λ b. b) x.kept.busy) s.kept ∙ records_pend setup [] s.within h s.host mine s.run
+
+pub weight_is :
+    (agent : AgentRecord) (setup : Configuration) (h : ℕ) (mine : List Event) → StandsFor agent setup h mine → weight_in agent.kept ≡ host_weight setup h mine
+weight_is agent setup h mine s = ap (λ (x : AgentRecord). weight_in x.kept) s.kept ∙ records_weigh setup [] s.within h s.host mine s.run

@@ -1,0 +1,67 @@
+-- What it says of a message that its take passes and its row holds: its lines are low, and there is room for it.
+use Rattle.std.proofs.Common.{Bool, None, Option, Some, ap, arith, false, length, refl, sym, true, ℕ, ◌+◌, ◌∙◌, ◌≡◌, ◌≤◌}
+use Rattle.std.specs.Prelude.{is_some, nat_lt}
+use Rattle.std.proofs.lemmas.Bool.{and_parts, false≢true, leb-true, ltb-true}
+use Rattle.std.proofs.lemmas.Option.{none-some}
+use Rattle.cxl_message.specs.declared.events.Cause.{Cause}
+use Rattle.cxl_message.specs.declared.messages.Message.{Message}
+use Rattle.cxl_message.specs.declared.opcodes.Span.{Span}
+use Rattle.cxl_message.specs.Codes.{span_len}
+use Rattle.cxl_message.specs.Setup.{Configuration, IsWithinLimits}
+use Rattle.coherence_model.specs.Emission.{Emission, nothing}
+use Rattle.coherence_model.specs.Refusals.{cause_passes}
+use Rattle.coherence_model.specs.Words.{when}
+use Rattle.host_record.specs.HostRecord.{HostRecord, view_in}
+use Rattle.host_record.specs.View.{left_of}
+use Rattle.host_record.specs.ViewRows.{has_room_by, takes_by}
+use Rattle.host_rows.specs.Messages.{IsLow}
+use Rattle.host_tables.specs.Kept.{IsRoomy}
+
+some_lines : (span : Span) → 1 ≤ span_len span
+some_lines Span.One = omega arith
+some_lines Span.Two = omega arith
+some_lines Span.Four = omega arith
+
+-- the lines of a message that may be taken are low
+pub low_by : (setup : Configuration) → IsWithinLimits setup → (h g : ℕ) (m : Message) → cause_passes setup h (Cause.Take g m) ≡ true → IsLow m
+low_by setup limits h g (Message.Req op meta snp tag line) passes = tt
+low_by setup limits h g (Message.MemWr meta snp tag line bytes) passes = tt
+low_by setup limits h g (Message.BiConflict tag) passes = tt
+low_by setup limits h g (Message.BiRsp op bitag low) passes = tt
+low_by setup limits h g (Message.Ndr op tag) passes = tt
+low_by setup limits h g (Message.MemData tag bytes) passes = tt
+low_by setup limits h g (Message.BiSnp op bitag line span) passes =
+    let within : line.0 + span_len span ≤ setup.lines =
+    leb-true (line.0 + span_len span) setup.lines (and_parts _ _ (and_parts _ _ (and_parts _ _ passes).1).1).0
+    in
+    let some = some_lines span in
+    let most : setup.lines ≤ 65536 = limits.lines.1 in
+    omega arith
+low_by setup limits h g (Message.Credit c) passes = tt
+
+lacking : (b : Bool) (w : Emission) → when b nothing ≡ Some w → b ≡ true
+lacking true w is = refl
+lacking false w is = absurd (none-some w is)
+
+-- where the row of a take holds, there is room for the message
+pub roomy_by : (setup : Configuration) (m : Message) (k : HostRecord) (w : Emission) → IsLow m → has_room_by setup m (view_in k) ≡ true → takes_by setup m (view_in k) ≡ Some w → IsRoomy setup m k
+roomy_by setup (Message.Req op meta snp tag line) k w low room is = tt
+roomy_by setup (Message.MemWr meta snp tag line bytes) k w low room is = tt
+roomy_by setup (Message.BiConflict tag) k w low room is = tt
+roomy_by setup (Message.BiRsp op bitag l) k w low room is = tt
+roomy_by setup (Message.Ndr op tag) k w low room is = ltb-true k.ndr_owed setup.credits room
+roomy_by setup (Message.MemData tag bytes) k w low room is = ltb-true k.drs_owed setup.credits room
+roomy_by setup (Message.BiSnp op bitag line span) k w low room is =
+    let less = ltb-true (k.bi_snp_owed + length k.snoops) setup.credits room in (low, omega arith)
+roomy_by setup (Message.Credit c) k w low room is = ltb-true (left_of (view_in k) c) setup.credits (lacking (nat_lt (left_of (view_in k) c) setup.credits) w is)
+
+roomy_with : (setup : Configuration) (m : Message) (k : HostRecord) (o : Option Emission) → IsLow m → has_room_by setup m (view_in k) ≡ true → takes_by setup m (view_in k) ≡ o → is_some o ≡ true
+    → IsRoomy setup m k
+roomy_with setup m k None low room is some = absurd (false≢true some)
+roomy_with setup m k (Some w) low room is some = roomy_by setup m k w low room is
+
+-- the same, by what the row emits
+pub roomy_some : (setup : Configuration) (m : Message) (k : HostRecord) (x : Option Emission) → IsLow m → has_room_by setup m (view_in k) ≡ true → x ≡ takes_by setup m (view_in k) → is_some x ≡ true
+    → IsRoomy setup m k
+roomy_some setup m k x low room is some =
+    roomy_with setup m k (takes_by setup m (view_in k)) low room refl (ap (λ (y : Option Emission). is_some y) (sym is) ∙ some)

@@ -1,0 +1,24 @@
+//! The rows H1 to H10 of a host over what it keeps: what an operation, a take or an act sends and commits, or why it is refused, and the
+//! event of it (CXL 3.1, chapter 3: the flows of HDM-DB; own rule: the rows and the order of refusals).
+//!
+//! A contract says the answer and the change by the record of `host_record`. No call takes memory.
+#![tactic(auto)]
+
+mod acting;
+mod answers;
+mod crediting;
+mod judging;
+mod operating;
+mod rules;
+mod stepping;
+mod taking;
+
+pub use acting::emitted_by_act;
+pub use answers::HostRefusal;
+pub use crediting::lacking;
+pub use judging::{answer_act, answer_take};
+pub use operating::{answer_operation, step_operation};
+pub use stepping::{step_act, step_take};
+
+#[cfg(test)]
+mod tests;

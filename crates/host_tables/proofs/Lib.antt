@@ -1,0 +1,4 @@
+pub mod Changes
+pub mod Copies
+pub mod Dropping
+pub mod Nothing
