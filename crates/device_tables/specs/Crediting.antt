@@ -1,5 +1,7 @@
 -- Bounds of what the device counts of a host's channels.
 use Rattle.std.specs.Prelude.{ℕ, ◌<◌, ◌≤◌}
+use Rattle.cxl_message.specs.declared.channels.Channel.{Channel}
+use Rattle.cxl_message.specs.declared.messages.Message.{Message}
 use Rattle.device_record.specs.Record.{CreditRecord}
 
 -- no number of a host is more than so many (own rule)
@@ -14,3 +16,25 @@ pub record AreAtMost (n : ℕ) (c : CreditRecord) : Type 0 where
 -- each number of a host may be one more: it is at most 64 (own rule)
 abbrev pub HasMore : CreditRecord → Type 0
 HasMore c = AreAtMost 64 c
+
+-- a Credit for a channel may be given back: a message of it is held (own rule)
+abbrev pub MayGiveBack : Channel → CreditRecord → Type 0
+MayGiveBack Channel.Req c = 1 ≤ c.req_held
+MayGiveBack Channel.Rwd c = 1 ≤ c.rwd_held
+MayGiveBack Channel.BiRsp c = 1 ≤ c.rsp_held
+MayGiveBack Channel.Ndr c = Unit {0}
+MayGiveBack Channel.Drs c = Unit {0}
+MayGiveBack Channel.BiSnp c = Unit {0}
+MayGiveBack Channel.CreditUp c = Unit {0}
+MayGiveBack Channel.CreditDown c = Unit {0}
+
+-- a message may be sent: a credit of its channel is left, or a Credit may be given back; the device sends no other (own rule)
+abbrev pub MaySend : Message → CreditRecord → Type 0
+MaySend (Message.Req _ _ _ _ _) c = Unit {0}
+MaySend (Message.MemWr _ _ _ _ _) c = Unit {0}
+MaySend (Message.BiConflict _) c = Unit {0}
+MaySend (Message.BiRsp _ _ _) c = Unit {0}
+MaySend (Message.Ndr _ _) c = 1 ≤ c.ndr_left
+MaySend (Message.MemData _ _) c = 1 ≤ c.drs_left
+MaySend (Message.BiSnp _ _ _ _) c = 1 ≤ c.snp_left
+MaySend (Message.Credit d) c = MayGiveBack d c

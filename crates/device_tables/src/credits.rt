@@ -3,7 +3,7 @@ ghost use Rattle.std.specs.Prelude.{◌≡◌, ◌<◌, nat_lt};
 ghost use Rattle.device_record.specs.CreditChanges.{credit_sent, credit_took, one_earned, one_held, one_returned, one_spent};
 ghost use Rattle.device_record.specs.Record.{held_on, left_on};
 ghost use Rattle.device_record.specs.Opened.{full_credits};
-ghost use Rattle.device_tables.specs.Crediting.{HasMore};
+ghost use Rattle.device_tables.specs.Crediting.{HasMore, MayGiveBack, MaySend};
 
 use cxl_message::{Channel, Message};
 use std::marker::Model;
@@ -111,8 +111,9 @@ impl HostCredits {
         }
     }
 
-    /// A message was sent to the host.
+    /// A message was sent to the host. A credit of its channel is left; for a Credit, a message is held that it is for.
     pub fn send(&mut self, message: &Message)
+        requires { MaySend message.now self.old }
         ensures { self.new ≡ credit_sent message.now self.old }
     {
         match message {
@@ -120,21 +121,22 @@ impl HostCredits {
             Message::MemWr { .. } => {}
             Message::BiConflict { .. } => {}
             Message::BiRsp { .. } => {}
-            Message::Ndr { .. } => self.ndr_left = self.ndr_left.saturating_sub(1),
-            Message::MemData { .. } => self.drs_left = self.drs_left.saturating_sub(1),
-            Message::BiSnp { .. } => self.snp_left = self.snp_left.saturating_sub(1),
+            Message::Ndr { .. } => self.ndr_left -= 1,
+            Message::MemData { .. } => self.drs_left -= 1,
+            Message::BiSnp { .. } => self.snp_left -= 1,
             Message::Credit { channel } => self.give_back(*channel),
         }
     }
 
-    /// A Credit for a channel was sent.
+    /// A Credit for a channel was sent. A message of it is held.
     fn give_back(&mut self, channel: Channel)
+        requires { MayGiveBack channel self.old }
         ensures { self.new ≡ one_returned channel self.old }
     {
         match channel {
-            Channel::Req => self.req_held = self.req_held.saturating_sub(1),
-            Channel::Rwd => self.rwd_held = self.rwd_held.saturating_sub(1),
-            Channel::BiRsp => self.rsp_held = self.rsp_held.saturating_sub(1),
+            Channel::Req => self.req_held -= 1,
+            Channel::Rwd => self.rwd_held -= 1,
+            Channel::BiRsp => self.rsp_held -= 1,
             Channel::Ndr => {}
             Channel::Drs => {}
             Channel::BiSnp => {}

@@ -290,7 +290,10 @@ fn put_task(tasks: &mut Vec<Task>, task: Task)
     ensures capacity { vec_capacity tasks.new ≡ vec_capacity tasks.old }
 {
     let place = place_of(tasks, task.first());
-    let _ = tasks.insert(place, task);
+    match tasks.insert(place, task) {
+        Ok(()) => {}
+        Err(_) => unreachable!("there is room"),
+    }
 }
 
 /// Takes the task with a first line away.

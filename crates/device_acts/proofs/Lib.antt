@@ -1,0 +1,4 @@
+pub mod Few
+pub mod Hosts
+pub mod Members
+pub mod Passing

@@ -1,0 +1,9 @@
+pub mod FilterLines
+pub mod Asked
+pub mod Unlisted
+pub mod Standing
+pub mod Passing
+pub mod Acts
+pub mod Takes
+pub mod Paying
+pub mod Steps

@@ -1,0 +1,4 @@
+pub mod FilterLines
+pub mod Paying
+pub mod Acting
+pub mod Passing

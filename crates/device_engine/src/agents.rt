@@ -1,0 +1,152 @@
+// The device agent.
+ghost use Rattle.std.specs.Prelude.{◌≡◌, ◌<◌, ◌↔◌, ◌∷◌, [], Err, IfOk, OnErr, false, length, slice_get};
+ghost use Rattle.cxl_message.specs.Opening.{opening_fits};
+ghost use Rattle.coherence_model.specs.Directory.{is_busy as is_busy_in};
+ghost use Rattle.coherence_model.specs.DirectoryChanges.{directory};
+ghost use Rattle.coherence_model.specs.Memory.{memory as memory_of};
+ghost use Rattle.coherence_model.specs.Next.{event_with};
+ghost use Rattle.coherence_model.specs.Pending.{device_pending};
+ghost use Rattle.coherence_model.specs.Refusals.{device_answer};
+ghost use Rattle.coherence_model.specs.Traces.{device};
+ghost use Rattle.coherence_model.specs.Weight.{device_weight};
+ghost use Rattle.device_engine.specs.Contract.{StandsFor, WhereStands, acts_after};
+ghost use Rattle.device_rows.specs.Answering.{answered};
+ghost use Rattle.device_engine.specs.declared.answers.OpenDeviceRefusal.{OpenDeviceRefusal as Refused};
+
+use crate::answers::OpenDeviceRefusal;
+use cxl_message::{Act, Bytes64, Cause, Line, Listing, Opening, Setup};
+use device_acts::{act_at, act_count, pending, weight};
+use device_changes::change;
+use device_rows::{DeviceRefusal, answer};
+use device_state::{Tables, open_tables};
+use emissions::Emitted;
+use std::alloc::Global;
+use std::marker::Model;
+
+/// The device agent (own rule).
+///
+/// A contract sees its setup and the record of what it keeps, and speaks of each setup, opening and list of own events
+/// that it stands for. It stands for some list at any time. Only `open` takes memory.
+#[derive(Drop)]
+pub struct DeviceAgent {
+    tables: Tables,
+}
+
+impl Model for DeviceAgent {
+    ghost use Rattle.device_state.specs.Agent.{AgentRecord};
+    ghost use Rattle.device_engine.specs.Contract.{StandsForSome};
+
+    ghost Value = { AgentRecord };
+
+    ghost view = { λ d. d.tables };
+
+    ghost invariant = { λ d. StandsForSome d.tables };
+}
+
+impl DeviceAgent {
+    /// The device before its first event, with memory as the opening has it. `BadOpening` is answered exactly where the
+    /// opening names a line that the setup hasn't; any other refusal is want of memory, which is all taken here.
+    pub fn open(
+        alloc: Global,
+        setup: &Setup,
+        opening: &Opening,
+    ) -> Result<DeviceAgent, OpenDeviceRefusal>
+        ensures bad_opening { (result ≡ Err Refused.BadOpening) ↔ (opening_fits setup.now.lines opening.now ≡ false) }
+        ensures stands { IfOk result (λ agent. StandsFor agent setup.now opening.now []) }
+    {
+        if !opening.fits(setup) {
+            return Err(OpenDeviceRefusal::BadOpening);
+        }
+        let _within = setup.hosts();
+        match open_tables(alloc, setup, opening) {
+            Ok(tables) => Ok(DeviceAgent { tables }),
+            Err(_) => Err(OpenDeviceRefusal::Memory),
+        }
+    }
+
+    /// What a cause would bring: rule P0 is tried, then the row, then the credits for what the row sends, NDR before DRS.
+    /// Nothing changes.
+    pub fn would(&self, cause: &Cause) -> Result<Emitted, DeviceRefusal>
+        ensures answer { WhereStands self.now (λ setup opening mine. answered result ≡ device_answer setup opening cause.now mine) }
+    {
+        answer(&self.tables, cause)
+    }
+
+    /// Makes the event of a cause, where it would bring one: the device stands for its list with this event then. A refusal
+    /// is the answer of `would`, and changes nothing.
+    pub fn step(&mut self, cause: &Cause) -> Result<Emitted, DeviceRefusal>
+        ensures answer { WhereStands self.old (λ setup opening mine. answered result ≡ device_answer setup opening cause.now mine) }
+        ensures goes_on { IfOk result (λ w. WhereStands self.old (λ setup opening mine. StandsFor self.new setup opening (event_with device cause.now w ∷ mine))) }
+        ensures refused { OnErr result (self.new ≡ self.old) }
+        ensures setup { self.new.setup ≡ self.old.setup }
+    {
+        match answer(&self.tables, cause) {
+            Ok(emitted) => {
+                change(&mut self.tables, cause, &emitted);
+                Ok(emitted)
+            }
+            Err(refusal) => Err(refusal),
+        }
+    }
+
+    /// The first act that the device's rows allow, in the order of the next steps: serves, then what is allowed of Clean,
+    /// Start and Evict, then the snoops and the end of each task, then the returns.
+    pub fn first_act(&self) -> Option<Act>
+        ensures first { WhereStands self.now (λ setup opening mine. result ≡ slice_get (acts_after setup opening mine) 0) }
+    {
+        self.act_at(0)
+    }
+
+    /// How many acts the device's rows allow.
+    pub fn act_count(&self) -> u32
+        ensures count { WhereStands self.now (λ setup opening mine. result ≡ length (acts_after setup opening mine)) }
+    {
+        act_count(&self.tables)
+    }
+
+    /// The act of a number among those that the device's rows allow, in their order: `None` where there are no more.
+    pub fn act_at(&self, k: u32) -> Option<Act>
+        ensures act { WhereStands self.now (λ setup opening mine. result ≡ slice_get (acts_after setup opening mine) k) }
+    {
+        act_at(&self.tables, k)
+    }
+
+    /// The bytes of a line of memory, which exists.
+    pub fn memory(&self, line: Line) -> Bytes64
+        requires line { line.0 < self.now.setup.lines }
+        ensures bytes { WhereStands self.now (λ setup opening mine. result ≡ memory_of opening line.0 mine) }
+    {
+        self.tables.bytes(line)
+    }
+
+    /// How a host is listed for a line; both exist.
+    pub fn listed(&self, line: Line, host: u8) -> Listing
+        requires line { line.0 < self.now.setup.lines }
+        requires host { host < self.now.setup.hosts }
+        ensures listing { WhereStands self.now (λ setup opening mine. result ≡ (directory setup mine).listed line.0 host) }
+    {
+        self.tables.listing(line, host)
+    }
+
+    /// Whether a line, which exists, is Busy.
+    pub fn is_busy(&self, line: Line) -> bool
+        requires line { line.0 < self.now.setup.lines }
+        ensures busy { WhereStands self.now (λ setup opening mine. result ≡ is_busy_in (directory setup mine) line.0) }
+    {
+        self.tables.is_held(line)
+    }
+
+    /// Whether some line is Busy or a Req or RwD message is buffered.
+    pub fn pending(&self) -> bool
+        ensures pending { WhereStands self.now (λ setup opening mine. result ≡ device_pending setup mine) }
+    {
+        pending(&self.tables)
+    }
+
+    /// What the device adds to the weight: what it owes, its buffered messages and its tasks.
+    pub fn weight(&self) -> u64
+        ensures weight { WhereStands self.now (λ setup opening mine. result ≡ device_weight setup mine) }
+    {
+        weight(&self.tables)
+    }
+}
