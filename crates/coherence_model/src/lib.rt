@@ -1,23 +1,23 @@
-// The definitions of the coherence model, and laws that follow from them by computation.
-//
-// A trace is a list of events, newest first, and every fact is found by looking back over it. The facts of a host or
-// of the device are functions of that agent's own events; only the messages in flight look at the whole trace.
-// The files of `specs/` in the order in which they are read:
-//
-// - the flat memory and legal histories: `FlatMemory`; events and traces: `Traces`;
-// - messages in flight and credits: `Flight`, `Credits`;
-// - a host: `Streams`, `Transactions` (open requests and evictions), `Tags`, `WriteBacks`, `Snoops`, `Stages`,
-//   `Copies`, `Cache` (copies with ways);
-// - the rows H1 to H10: `HostOperations`, `HostTakes`, `HostActs`, together `HostRows`;
-// - the device: `Buffers`, `Memory`, `SentSnoops`, `Tasks`, `Directory`, `DirectoryChanges` (listings with tasks and
-//   entries), `Room`;
-// - the rows V1 to V9: `DeviceTakes`, `DeviceActs`, together `DeviceRows`;
-// - P0, K0 and S0: `Fitting`, `Rules`; when an event is allowed, runs, and the runs of one agent alone:
-//   `Rows`, `Runs`, `OwnRuns`; verdicts: `Verdicts`;
-// - coherence itself: `Coherence`; what is pending, the next steps and the weight: `Pending`, `Next`, `Weight`;
-// - driving a script: `Choices`, `Driven`; the summary: `Summaries`; the refusals of the agents: `Refusals`;
-// - the facts that hold after every run: `CreditFacts`, `EntryFacts`, `RequestFacts`, `OwnerFacts`, `SnoopFacts`,
-//   `ListingFacts`, `ValueFacts`.
+//! The definitions of the coherence model, and laws that follow from them by computation.
+//!
+//! A trace is a list of events, newest first, and every fact is found by looking back over it. The facts of a host or
+//! of the device are functions of that agent's own events; only the messages in flight look at the whole trace.
+//! The files of `specs/` in the order in which they are read:
+//!
+//! - the flat memory and legal histories: `FlatMemory`; events and traces: `Traces`;
+//! - messages in flight and credits: `Flight`, `Credits`;
+//! - a host: `Streams`, `Transactions` (open requests and evictions), `Tags`, `WriteBacks`, `Snoops`, `Stages`,
+//!   `Copies`, `Cache` (copies with ways);
+//! - the rows H1 to H10: `HostOperations`, `HostTakes`, `HostActs`, together `HostRows`;
+//! - the device: `Buffers`, `Memory`, `SentSnoops`, `Tasks`, `Directory`, `DirectoryChanges` (listings with tasks and
+//!   entries), `Room`;
+//! - the rows V1 to V9: `DeviceTakes`, `DeviceActs`, together `DeviceRows`;
+//! - P0, K0 and S0: `Fitting`, `Rules`; when an event is allowed, runs, and the runs of one agent alone:
+//!   `Rows`, `Runs`, `OwnRuns`; verdicts: `Verdicts`;
+//! - coherence itself: `Coherence`; what is pending, the next steps and the weight: `Pending`, `Next`, `Weight`;
+//! - driving a script: `Choices`, `Driven`; the summary: `Summaries`; the refusals of the agents: `Refusals`;
+//! - the facts that hold after every run: `CreditFacts`, `EntryFacts`, `RequestFacts`, `OwnerFacts`, `SnoopFacts`,
+//!   `ListingFacts`, `ValueFacts`.
 #![tactic(auto)]
 
 ghost use Rattle.coherence_model.specs.Laws.{AllowedBreaksNoRule, EmptyTraceIsRun, EventsOfRunAreOwnRun};

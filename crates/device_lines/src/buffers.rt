@@ -28,7 +28,9 @@ pub enum Write {
 /// The line that a buffered MemWr writes, and the slot with its bytes.
 #[derive(Clone, Copy)]
 pub struct Target {
+    /// The line that it writes.
     pub line: Line,
+    /// The slot that has its bytes.
     pub slot: SlotId,
 }
 

@@ -1,5 +1,5 @@
-// Laws of the device's entries, tasks, evictions and buffered messages. They hold of every list of its own events that its rules
-// allow, whatever the hosts sent, and so after every run.
+//! Laws of the device's entries, tasks, evictions and buffered messages. They hold of every list of its own events that its rules
+//! allow, whatever the hosts sent, and so after every run.
 #![tactic(auto)]
 
 ghost use Rattle.entry_laws.specs.Laws.{

@@ -133,7 +133,9 @@ impl MessageHead {
 /// A message as its head and its payload, which counts where the head has one.
 #[derive(Clone, Copy)]
 pub struct MessageRef<'a> {
+    /// The message, but for its payload.
     pub head: MessageHead,
+    /// The 64 bytes, which count where the head has a payload.
     pub payload: &'a [u8; 64],
 }
 

@@ -34,7 +34,9 @@ impl OpHead {
 /// An operation as its head and its payload, which counts where the head has one.
 #[derive(Clone, Copy)]
 pub struct OpRef<'a> {
+    /// The operation, but for its payload.
     pub head: OpHead,
+    /// The 64 bytes, which count where the head has a payload.
     pub payload: &'a [u8; 64],
 }
 

@@ -24,7 +24,9 @@ pub enum CauseRef<'a> {
 /// A message that an event sends, from or to a host.
 #[derive(Clone, Copy)]
 pub struct OutRef<'a> {
+    /// The host that sends or gets it, below 16.
     pub host: u8,
+    /// The message.
     pub message: MessageRef<'a>,
 }
 
@@ -39,9 +41,13 @@ pub enum SendsRef<'a> {
 /// A completed operation of a stream, and the line's 64 bytes after it.
 #[derive(Clone, Copy)]
 pub struct CommitRef<'a> {
+    /// The stream, below 64.
     pub stream: u8,
+    /// The operation's number among those of the stream, counted from 0.
     pub index: u32,
+    /// The operation.
     pub op: OpRef<'a>,
+    /// The line's bytes after it.
     pub value: &'a [u8; 64],
 }
 

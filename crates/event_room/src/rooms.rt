@@ -18,15 +18,20 @@ pub enum CauseHead {
 /// A sent message without its payload (own rule).
 #[derive(Clone, Copy)]
 pub struct OutHead {
+    /// The host that sends or gets it, below 16.
     pub host: u8,
+    /// The message, but for its payload.
     pub head: MessageHead,
 }
 
 /// A commit without payloads (own rule).
 #[derive(Clone, Copy)]
 pub struct CommitHead {
+    /// The stream, below 64.
     pub stream: u8,
+    /// The operation's number among those of the stream, counted from 0.
     pub index: u32,
+    /// The operation, but for its payload.
     pub op: OpHead,
 }
 

@@ -4,14 +4,18 @@ use atomic_table::TableRule;
 use cxl_message::{Opening, Setup};
 use std::snapshot::Snapshot;
 
-// The setup and the opening of the board's runs, and how many events each agent may make.
+/// The setup and the opening of the board's runs, and how many events each agent may make.
 #[derive(Drop)]
 pub struct BoardKey {
+    /// The setup of the board's runs.
     pub setup: Setup,
+    /// What memory holds before their first event.
     pub opening: Snapshot<Opening>,
+    /// How many events each agent may make.
     pub room: u32,
 }
 
+/// The rule of the board's word.
 pub struct BoardRule;
 
 impl TableRule<(), View, BoardKey> for BoardRule {

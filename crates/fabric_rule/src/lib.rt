@@ -1,5 +1,5 @@
-// The board of a threaded fabric: one counted word, by whose rule each count is the number of an event in one run, and what the
-// seat of each agent has seen of that run.
+//! The board of a threaded fabric: one counted word, by whose rule each count is the number of an event in one run, and what the
+//! seat of each agent has seen of that run.
 #![tactic(auto)]
 
 mod board;

@@ -1,7 +1,7 @@
-// Exactly the allowed steps of the coherence machine, for the rows of the first path: the parts of hosts and device and
-// the messages in flight are kept as tables and short queues, and each call answers what the definitions give.
-//
-// "Own rule" marks what is this project's own and no statement about CXL 3.1.
+//! Exactly the allowed steps of the coherence machine, for the rows of the first path: the parts of hosts and device and
+//! the messages in flight are kept as tables and short queues, and each call answers what the definitions give.
+//!
+//! "Own rule" marks what is this project's own and no statement about CXL 3.1.
 #![tactic(auto)]
 
 mod answers;

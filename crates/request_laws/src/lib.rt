@@ -1,4 +1,4 @@
-// Laws of every run on where each open request, eviction, write-back and conflict is.
+//! Laws of every run on where each open request, eviction, write-back and conflict is.
 #![tactic(auto)]
 
 ghost use Rattle.request_laws.specs.HostLaws.{

@@ -1,4 +1,4 @@
-// Laws of runs: how a run goes on, what may be cut off it, and what other agents' events leave.
+//! Laws of runs: how a run goes on, what may be cut off it, and what other agents' events leave.
 #![tactic(auto)]
 
 ghost use Rattle.run_laws.specs.Laws.{

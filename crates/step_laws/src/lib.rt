@@ -1,4 +1,4 @@
-// The next steps of a run: exactly the events that are allowed and aren't operations, each as often as it should stand there.
+//! The next steps of a run: exactly the events that are allowed and aren't operations, each as often as it should stand there.
 #![tactic(auto)]
 
 ghost use Rattle.step_laws.specs.Facts.{BlocksComeFirst, HeldSnoopsAreDisjoint, HeldSnoopsFit, LinesHaveOneAct, RequestsHaveOneAct};
