@@ -36,7 +36,8 @@ use Rattle.cxl_message.proofs.SameNames.{channel_eq-same}
 use Rattle.cxl_message.proofs.SameMessages.{message_eq-same}
 use Rattle.host_laws.proofs.CreditSteps.{act_returns, evict_returns, is_credit, no_credit, request_returns, take_takes, within_step}
 use Rattle.host_laws.proofs.Events.{act_event, commit_of, evicting_event, hit_event, request_event, take_event}
-use Rattle.host_laws.proofs.HostEvents.{ByAck, ByAnswer, ByBlock, ByConflict, ByCredit, ByData, ByDataFill, ByDrop, ByEviction, ByEvictionEnd, ByGrant, ByGrantFill, ByHit, ByRequest, ByReturn, BySnoop, ByWriteBack, ByWriteEnd, HostEvent, data_of, host_event, ndr}
+use Rattle.host_laws.proofs.HostEvents.{ByAck, ByAnswer, ByBlock, ByConflict, ByCredit, ByData, ByDataFill, ByDrop, ByEviction, ByEvictionEnd, ByGrant, ByGrantFill, ByHit, ByRequest, ByReturn, BySnoop, ByWriteBack, ByWriteEnd, HostEvent, data_of, ndr}
+use Rattle.host_laws.proofs.HostCases.{host_event}
 use Rattle.host_laws.proofs.Keeps.{own_event, run_before}
 use Rattle.host_laws.proofs.ViewsAreModel.{OwesHeld}
 use Rattle.host_laws.proofs.WayFacts.{few_filter}

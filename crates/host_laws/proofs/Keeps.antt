@@ -40,7 +40,8 @@ use Rattle.coherence_model.specs.OwnRuns.{is_own_run}
 use Rattle.host_laws.proofs.CacheKept.{CacheKeeps, asks, drop_keeps, evict_keeps, hit_keeps, request_keeps}
 use Rattle.host_laws.proofs.CacheTakes.{answer_keeps_shared, answered_keeps, block_keeps, fill_keeps, idle_keeps, mark_keeps, modified_is_valid, written_keeps}
 use Rattle.host_laws.proofs.Events.{act_event, commit_of, evicting_event, request_event, take_event}
-use Rattle.host_laws.proofs.HostEvents.{ByAck, ByAnswer, ByBlock, ByConflict, ByCredit, ByData, ByDataFill, ByDrop, ByEviction, ByEvictionEnd, ByGrant, ByGrantFill, ByHit, ByRequest, ByReturn, BySnoop, ByWriteBack, ByWriteEnd, HostEvent, OwnStep, data_of, host_event, ndr}
+use Rattle.host_laws.proofs.HostEvents.{ByAck, ByAnswer, ByBlock, ByConflict, ByCredit, ByData, ByDataFill, ByDrop, ByEviction, ByEvictionEnd, ByGrant, ByGrantFill, ByHit, ByRequest, ByReturn, BySnoop, ByWriteBack, ByWriteEnd, HostEvent, OwnStep, data_of, ndr}
+use Rattle.host_laws.proofs.HostCases.{host_event}
 use Rattle.host_laws.proofs.Opens.{AnswersTag, FoundLine, ack_open, credit_open, data_answers, evicted, found_line, ndr_answers, open_take, request_open, snoop_open, two_open_at, write_end_open}
 
 -- a request that is open for a line is one of that line's operations

@@ -25,8 +25,10 @@ use Rattle.host_laws.proofs.CacheKept.{quiet_parts}
 use Rattle.host_laws.proofs.Credits.{Purses, owes_held, purses}
 use Rattle.host_laws.proofs.FollowActs.{follow_answer, follow_block, follow_conflict, follow_return, follow_write_back}
 use Rattle.host_laws.proofs.Follows.{Follows, follow_drop, follow_evict, follow_hit, follow_request}
-use Rattle.host_laws.proofs.FollowTakes.{follow_ack, follow_credit, follow_data, follow_data_fill, follow_eviction_end, follow_grant, follow_grant_fill, follow_snoop, follow_write_end}
-use Rattle.host_laws.proofs.HostEvents.{ByAck, ByAnswer, ByBlock, ByConflict, ByCredit, ByData, ByDataFill, ByDrop, ByEviction, ByEvictionEnd, ByGrant, ByGrantFill, ByHit, ByRequest, ByReturn, BySnoop, ByWriteBack, ByWriteEnd, HostEvent, host_event}
+use Rattle.host_laws.proofs.FollowTakes.{follow_data, follow_data_fill, follow_eviction_end, follow_grant, follow_grant_fill, follow_write_end}
+use Rattle.host_laws.proofs.FollowSnoops.{follow_ack, follow_credit, follow_snoop}
+use Rattle.host_laws.proofs.HostEvents.{ByAck, ByAnswer, ByBlock, ByConflict, ByCredit, ByData, ByDataFill, ByDrop, ByEviction, ByEvictionEnd, ByGrant, ByGrantFill, ByHit, ByRequest, ByReturn, BySnoop, ByWriteBack, ByWriteEnd, HostEvent}
+use Rattle.host_laws.proofs.HostCases.{host_event}
 use Rattle.host_laws.proofs.Keeps.{Keeps, keeps, own_event, run_before}
 use Rattle.host_laws.proofs.Ranges.{Ranges, ranges}
 use Rattle.host_record.specs.HostChanges.{host_after}

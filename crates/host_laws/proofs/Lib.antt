@@ -4,6 +4,7 @@ pub mod Events
 pub mod WayLists
 pub mod CacheSteps
 pub mod HostEvents
+pub mod HostCases
 pub mod Opens
 pub mod WayFacts
 pub mod CacheKept
@@ -21,6 +22,7 @@ pub mod CreditSteps
 pub mod Credits
 pub mod Follows
 pub mod FollowTakes
+pub mod FollowSnoops
 pub mod FollowActs
 pub mod Laws
 pub mod ActsAre

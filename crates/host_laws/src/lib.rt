@@ -1,5 +1,5 @@
-// What a host keeps, against the model: laws of its record over every list of its own events that its rules allow, whatever its
-// peers did, and so after every run too.
+//! What a host keeps, against the model: laws of its record over every list of its own events that its rules allow, whatever its
+//! peers did, and so after every run too.
 #![tactic(auto)]
 
 ghost use Rattle.host_laws.specs.OwnFacts.{HeldWithinCredits, OwedAndBufferedAreHeld, SentWithinCredits, WaysAreExact, WaysAreFew};

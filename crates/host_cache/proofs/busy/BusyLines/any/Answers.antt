@@ -1,7 +1,7 @@
 use Rattle.std.proofs.Common.{Bool, ap, ◌∙◌}
 use Rattle.std.specs.Prelude.{nat_lt}
 use Rattle.std.specs.List.{list_any}
-use Rattle.host_cache.proofs.Kept.{some_marked}
+use Rattle.host_cache.proofs.Dropped.{some_marked}
 use Rattle.host_cache.proofs.busy.BusyLines.any.Goals as goal
 
 pub returns : goal.returns

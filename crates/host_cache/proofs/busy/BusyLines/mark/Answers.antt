@@ -1,5 +1,5 @@
 use Rattle.std.proofs.Common.{ap, arith, length, sym, ◌∙◌}
-use Rattle.host_cache.proofs.Kept.{few_marked}
+use Rattle.host_cache.proofs.Dropped.{few_marked}
 use Rattle.host_cache.proofs.busy.BusyLines.mark.Goals as goal
 
 pub recounted-self-inside-requires-clause-more : goal.recounted-self-inside-requires-clause-more

@@ -7,7 +7,8 @@ use Rattle.line_pool.specs.Pools.{Pool, line_of}
 use Rattle.linked_order.specs.Orders.{Order, without_place}
 use Rattle.host_record.specs.Ways.{drop_way, put_way}
 use Rattle.host_cache.specs.Caches.{Cache, IsKept, cache_of}
-use Rattle.host_cache.proofs.Kept.{cache_changed, cache_dropped, give_up_drops, give_up_keeps, has_of, held_in_use, held_of, kept_changed, kept_dropped, line_other, listed_held, lookup_within, size_without}
+use Rattle.host_cache.proofs.Kept.{cache_changed, has_of, held_in_use, held_of, kept_changed, line_other, lookup_within}
+use Rattle.host_cache.proofs.Dropped.{cache_dropped, give_up_drops, give_up_keeps, kept_dropped, listed_held, size_without}
 use Rattle.host_cache.proofs.caches.HostCache.drop_copy.Goals as goal
 
 pub index_mut-requires : goal.index_mut-requires

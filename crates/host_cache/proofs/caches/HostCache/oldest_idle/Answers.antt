@@ -4,7 +4,7 @@ use Rattle.std.proofs.lemmas.Iterator.Consumers.{YieldsList-from_rest}
 use Rattle.std.proofs.lemmas.Iterator.Search.{find_from_yields_List}
 use Rattle.host_record.specs.Tables.{place_or}
 use Rattle.host_cache.specs.Caches.{line_named}
-use Rattle.host_cache.proofs.Kept.{idle_found}
+use Rattle.host_cache.proofs.Dropped.{idle_found}
 use Rattle.host_cache.proofs.caches.HostCache.oldest_idle.Goals as goal
 
 pub returns-in_err-line : goal.returns-in_err-line

@@ -1,5 +1,5 @@
 use Rattle.std.proofs.Common.{arith, rules}
-use Rattle.host_cache.proofs.Kept.{kept_opened}
+use Rattle.host_cache.proofs.Dropped.{kept_opened}
 use Rattle.host_cache.proofs.caches.HostCache.open.Goals as goal
 
 pub invariant_of-result : goal.invariant_of-result

@@ -2,7 +2,7 @@ use Rattle.std.proofs.Common.{ap, sym, ◌∙◌, ℕ}
 use Rattle.std.specs.Prelude.{option_map}
 use Rattle.std.proofs.lemmas.Iterator.Consumers.{YieldsList-from_rest, nth_from_yields_List}
 use Rattle.host_cache.specs.Caches.{line_named}
-use Rattle.host_cache.proofs.Kept.{way_found}
+use Rattle.host_cache.proofs.Dropped.{way_found}
 use Rattle.host_cache.proofs.caches.HostCache.way_at.Goals as goal
 
 pub returns-in_err-line : goal.returns-in_err-line
