@@ -20,10 +20,9 @@ all_weaker p q h (x ∷ xs) all = let parts = and_parts (p x) (list_all p xs) al
 placed : (lines : ℕ) (op : Op) → op_fits lines op ≡ true → is_placed lines op ≡ true
 placed lines (Op.Load line) fits = and_from (nat_lt line.0 lines) true fits refl
 placed lines (Op.Word line place value) fits =
-    let outer = and_parts (nat_lt line.0 lines && nat_le place 7) (nat_lt value (2 ^ 64)) fits in
-    let parts = and_parts (nat_lt line.0 lines) (nat_le place 7) outer.0 in
-    let low : place ≤ 7 = leb-true place 7 parts.1 in
-    and_from (nat_lt line.0 lines) (nat_lt place 8) parts.0 (lt-ltb place 8 (omega (arith, low)))
+    let outer = and_parts (nat_lt line.0 lines && nat_lt place 8) (nat_lt value (2 ^ 64)) fits in
+    let parts = and_parts (nat_lt line.0 lines) (nat_lt place 8) outer.0 in
+    and_from (nat_lt line.0 lines) (nat_lt place 8) parts.0 parts.1
 placed lines (Op.Whole line bytes) fits = and_from (nat_lt line.0 lines) true (and_parts (nat_lt line.0 lines) _ fits).0 refl
 
 -- the five tests

@@ -38,7 +38,7 @@ op_spelled lines (Op.Word line place value) most fits =
     let one = and_parts _ _ fits in
     let two = and_parts _ _ one.0 in
     let below = ltb-true line.0 lines two.0 in
-    let within = leb-true place 7 two.1 in
+    let within = ltb-true place 8 two.1 in
     (omega arith, omega arith, ltb-true value (2 ^ 64) one.1)
 op_spelled lines (Op.Whole line bytes) most fits = let one = and_parts _ _ fits in let below = ltb-true line.0 lines one.0 in (omega arith, one.1)
 

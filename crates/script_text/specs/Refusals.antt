@@ -8,6 +8,8 @@ use Rattle.script_text.specs.declared.lines.ScriptLine.{ScriptLine}
 use Rattle.script_text.specs.declared.refusals.ScriptReason.{ScriptReason}
 use Rattle.script_text.specs.declared.refusals.ScriptRefusal.{ScriptRefusal}
 use Rattle.script_text.specs.Script.{operation_count}
+use Rattle.cxl_message.specs.declared.limits.TheConstants.{MAX_STREAMS, PLACES}
+use Rattle.script_text.specs.declared.limits.TheConstants.{MAX_OPERATIONS, MAX_PICK}
 
 -- what holds of a refusal for a line, memory aside
 abbrev pub IfBad : ScriptRefusal → (ℕ → ScriptReason → Type 0) → Type 0
@@ -32,7 +34,7 @@ abbrev pub op_refusal : ScriptValue → Bool → Option ScriptReason
 op_refusal s fits =
     if not (takes_operations s) then Some ScriptReason.Spelling
     else (if not fits then Some ScriptReason.Range
-    else (if not (nat_lt (operation_count s.operations) 65536) then Some ScriptReason.Many else None))
+    else (if not (nat_lt (operation_count s.operations) MAX_OPERATIONS) then Some ScriptReason.Many else None))
 
 -- why a line is refused after a script's lines, if it is: the first of spelling, range, order and many
 abbrev pub line_refusal : ScriptValue → ScriptLine → Option ScriptReason
@@ -43,11 +45,11 @@ line_refusal s (ScriptLine.Open line bytes) =
 line_refusal s (ScriptLine.Stream host) =
     if not (length s.picks == 0) then Some ScriptReason.Spelling
     else (if not (nat_lt host s.setup.hosts) then Some ScriptReason.Range
-    else (if not (nat_lt (length s.setup.streams) 64) then Some ScriptReason.Many else None))
+    else (if not (nat_lt (length s.setup.streams) MAX_STREAMS) then Some ScriptReason.Many else None))
 line_refusal s (ScriptLine.Load line) = op_refusal s (nat_lt line s.setup.lines)
-line_refusal s (ScriptLine.Word line place value) = op_refusal s (nat_lt line s.setup.lines && nat_le place 7)
+line_refusal s (ScriptLine.Word line place value) = op_refusal s (nat_lt line s.setup.lines && nat_lt place PLACES)
 line_refusal s (ScriptLine.Whole line bytes) = op_refusal s (nat_lt line s.setup.lines)
-line_refusal s (ScriptLine.Pick pick) = if nat_le pick 65535 then None else Some ScriptReason.Range
+line_refusal s (ScriptLine.Pick pick) = if nat_le pick MAX_PICK then None else Some ScriptReason.Range
 
 -- the streams' operations with one more, of the last stream
 abbrev pub with_op : List (List Op) → Op → List (List Op)

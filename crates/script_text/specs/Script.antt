@@ -7,6 +7,8 @@ use Rattle.cxl_message.specs.Opening.{IsOpening, opening_fits}
 use Rattle.cxl_message.specs.Script.{ScriptValue}
 use Rattle.cxl_message.specs.Setup.{IsWithinLimits}
 use Rattle.script_text.specs.declared.lines.ScriptLine.{ScriptLine}
+use Rattle.cxl_message.specs.declared.limits.TheConstants.{PLACES}
+use Rattle.script_text.specs.declared.limits.TheConstants.{MAX_OPERATIONS, MAX_PICK, MAX_ROOM, MAX_SCRIPT_TAGS}
 
 -- whether these are 64 bytes
 abbrev pub are_line_bytes : Bytes64 → Bool
@@ -15,25 +17,25 @@ are_line_bytes bytes = (length bytes.0 == 64) && list_all (λ byte. nat_lt byte 
 -- whether the line of an operation is one of so many, its place one of eight, and its value one of 64 bits or of 64 bytes
 abbrev pub op_fits : ℕ → Op → Bool
 op_fits lines (Op.Load line) = nat_lt line.0 lines
-op_fits lines (Op.Word line place value) = nat_lt line.0 lines && nat_le place 7 && nat_lt value (2 ^ 64)
+op_fits lines (Op.Word line place value) = nat_lt line.0 lines && nat_lt place PLACES && nat_lt value (2 ^ 64)
 op_fits lines (Op.Whole line bytes) = nat_lt line.0 lines && are_line_bytes bytes
 
 -- how many operations there are in all streams
 abbrev pub operation_count : List (List Op) → ℕ
 operation_count operations = sum_by length operations
 
--- every number of a script is within its limits, of which that of its tags is 64, its opening is one, and each stream has its operations
+-- every number of a script is within its limits, its tags fewer than a setup may have, its opening is one, and each stream has its operations
 pub record IsScript (s : ScriptValue) : Type 0 where
   pub setup : IsWithinLimits s.setup
-  pub tags : s.setup.tags ≤ 64
-  pub room : (1 ≤ s.room) × (s.room ≤ 200000)
+  pub tags : s.setup.tags ≤ MAX_SCRIPT_TAGS
+  pub room : (1 ≤ s.room) × (s.room ≤ MAX_ROOM)
   pub opening : IsOpening s.opening
   pub opening_lines : IsTrue (opening_fits s.setup.lines s.opening)
   pub opening_bytes : IsTrue (list_all (λ pair. are_line_bytes pair.1) s.opening)
   pub streams : length s.operations ≡ length s.setup.streams
   pub operations : IsTrue (list_all (λ ops. list_all (op_fits s.setup.lines) ops) s.operations)
-  pub operation_count : operation_count s.operations ≤ 65536
-  pub picks : IsTrue (list_all (λ pick. nat_le pick 65535) s.picks)
+  pub operation_count : operation_count s.operations ≤ MAX_OPERATIONS
+  pub picks : IsTrue (list_all (λ pick. nat_le pick MAX_PICK) s.picks)
 
 -- the numbers of a line have a spelling: up to ten decimal digits, a value of 64 bits, 64 bytes
 abbrev pub IsSpelled : ScriptLine → Type 0

@@ -4,10 +4,13 @@ ghost use Rattle.cxl_message.specs.Setup.{IsWithinLimits};
 ghost use Rattle.script_text.specs.Drafts.{script_of, IsCounted, AddsLine, IsRefusedAt};
 ghost use Rattle.script_text.specs.Refusals.{IfBad, op_refusal, with_op};
 ghost use Rattle.script_text.specs.Script.{IsScript};
+ghost use Rattle.cxl_message.specs.declared.limits.TheConstants.{MAX_STREAMS};
+ghost use Rattle.script_text.specs.declared.limits.TheConstants.{MAX_OPERATIONS};
 
+use crate::limits::{MAX_OPERATIONS, MAX_PICK};
 use crate::lines::ScriptLine;
 use crate::refusals::{ScriptReason, ScriptRefusal};
-use cxl_message::{Bytes64, Line, Op, Opening, OpeningRefusal, Setup};
+use cxl_message::{Bytes64, Line, MAX_STREAMS, Op, Opening, OpeningRefusal, PLACES, Setup};
 use std::alloc::Global;
 
 /// What the lines that were read say, and how many operations there are.
@@ -91,7 +94,7 @@ impl Draft {
         if host >= u64::from(self.setup.hosts()) {
             return Err(bad(number, ScriptReason::Range));
         }
-        if self.setup.streams().len() >= 64 {
+        if self.setup.streams().len() >= MAX_STREAMS as usize {
             return Err(bad(number, ScriptReason::Many));
         }
         self.operations.push(Vec::new(alloc))?;
@@ -123,7 +126,7 @@ impl Draft {
         ensures added { OnOk result (AddsLine (ScriptLine.Word line place value) self.old self.new) }
         ensures refused { IfErr result (IsRefusedAt number (ScriptLine.Word line place value) self.old) }
     {
-        let fits = line < u64::from(self.setup.lines()) && place <= 7;
+        let fits = line < u64::from(self.setup.lines()) && place < u64::from(PLACES);
         self.allow_operation(number, fits)?;
         let line = Line(line as u32);
         let place = place as u8;
@@ -148,7 +151,7 @@ impl Draft {
         ensures added { OnOk result (AddsLine (ScriptLine.Pick pick) self.old self.new) }
         ensures refused { IfErr result (IsRefusedAt number (ScriptLine.Pick pick) self.old) }
     {
-        if pick > 65535 {
+        if pick > u64::from(MAX_PICK) {
             return Err(bad(number, ScriptReason::Range));
         }
         self.picks.push(pick as u16)?;
@@ -167,7 +170,7 @@ impl Draft {
         if !fits {
             return Err(bad(number, ScriptReason::Range));
         }
-        if self.count >= 65536 {
+        if self.count >= MAX_OPERATIONS {
             return Err(bad(number, ScriptReason::Many));
         }
         Ok(())
@@ -177,7 +180,7 @@ impl Draft {
     fn add_operation(&mut self, op: Op) -> Result<(), ScriptRefusal>
         requires counted { IsCounted self.old }
         requires streams { 0 < length self.old.operations.items }
-        requires few { self.old.count < 65536 }
+        requires few { self.old.count < MAX_OPERATIONS }
         ensures added { OnOk result (script_of self.new ≡ record (script_of self.old) { operations = with_op (script_of self.old).operations op }) }
         ensures counted { OnOk result (IsCounted self.new) }
         ensures memory { IfErr result (λ refusal. refusal ≡ ScriptRefusal.Memory) }
@@ -198,11 +201,11 @@ fn bad(line: u32, reason: ScriptReason) -> ScriptRefusal
 
 /// A setup with one stream more.
 fn with_stream(setup: &Setup, host: u8) -> Setup
-    requires few { length setup.now.streams < 64 }
+    requires few { length setup.now.streams < MAX_STREAMS }
     requires exists { host < setup.now.hosts }
     ensures { result ≡ record setup.now { streams = setup.now.streams ++ host ∷ [] } }
 {
-    let mut hosts = [0; 64];
+    let mut hosts = [0; MAX_STREAMS as usize];
     let count = setup.streams().len();
     hosts[..count].copy_from_slice(setup.streams());
     hosts[count] = host;
@@ -216,6 +219,8 @@ fn with_stream(setup: &Setup, host: u8) -> Setup
         &hosts[..count + 1],
     ) {
         Ok(setup) => setup,
-        Err(_) => unreachable!("one more stream of a host that there is, after at most 63"),
+        Err(_) => unreachable!(
+            "one more stream of a host that there is, after fewer than there may be"
+        ),
     }
 }

@@ -3,24 +3,40 @@ ghost use Rattle.std.specs.Option.{option_map};
 ghost use Rattle.std.specs.Prelude.{◌≡◌, ◌≤◌, ◌<◌, ◌^◌, IfOk, IfSome};
 ghost use Rattle.script_text.specs.Head.{number_behind, setting_in, number_at, head_at};
 ghost use Rattle.script_text.specs.Refusals.{Gives};
+ghost use Rattle.script_text.specs.declared.limits.TheConstants.{MAX_ROOM};
 
+use crate::limits::{MAX_ROOM, MAX_SCRIPT_TAGS};
 use crate::refusals::{ScriptReason, ScriptRefusal};
 use crate::words::{cut_at, number_of};
-use cxl_message::Setup;
+use cxl_message::{
+    MAX_CREDITS, MAX_ENTRIES, MAX_HOSTS, MAX_LINES, MAX_WAYS, MIN_CREDITS, MIN_TAGS, Setup,
+};
 
 /// The setup without streams and the room of the seven lines, and the text after them.
 #[tactic(auto, unfolding(crate::specs::Head::head_at))]
 pub fn head_of(text: &[u8]) -> Result<(Setup, u32, &[u8]), ScriptRefusal>
     ensures head { Gives (λ head. (head.0, head.1, head.2.now)) result (head_at text.now) }
-    ensures room { IfOk result (λ head. (1 ≤ head.1) × (head.1 ≤ 200000)) }
+    ensures room { IfOk result (λ head. (1 ≤ head.1) × (head.1 ≤ MAX_ROOM)) }
 {
-    let (hosts, text) = number_line(text, 1, b"hosts", 1, 16)?;
-    let (lines, text) = number_line(text, 2, b"lines", 1, 65536)?;
-    let (entries, text) = number_line(text, 3, b"filter", 1, 4096)?;
-    let (ways, text) = number_line(text, 4, b"ways", 1, 256)?;
-    let (tags, text) = number_line(text, 5, b"tags", 2, 64)?;
-    let (credits, text) = number_line(text, 6, b"credits", 2, 64)?;
-    let (room, text) = number_line(text, 7, b"room", 1, 200000)?;
+    let (hosts, text) = number_line(text, 1, b"hosts", 1, u64::from(MAX_HOSTS))?;
+    let (lines, text) = number_line(text, 2, b"lines", 1, u64::from(MAX_LINES))?;
+    let (entries, text) = number_line(text, 3, b"filter", 1, u64::from(MAX_ENTRIES))?;
+    let (ways, text) = number_line(text, 4, b"ways", 1, u64::from(MAX_WAYS))?;
+    let (tags, text) = number_line(
+        text,
+        5,
+        b"tags",
+        u64::from(MIN_TAGS),
+        u64::from(MAX_SCRIPT_TAGS),
+    )?;
+    let (credits, text) = number_line(
+        text,
+        6,
+        b"credits",
+        u64::from(MIN_CREDITS),
+        u64::from(MAX_CREDITS),
+    )?;
+    let (room, text) = number_line(text, 7, b"room", 1, u64::from(MAX_ROOM))?;
     match Setup::new(
         hosts as u8,
         lines,

@@ -8,6 +8,7 @@
 mod drafts;
 mod head;
 mod laws;
+mod limits;
 mod lines;
 mod parsing;
 mod printing;
@@ -16,6 +17,7 @@ mod scripts;
 mod words;
 
 pub use laws::{failures_are_alone, texts_spell_one_script};
+pub use limits::{MAX_OPERATIONS, MAX_PICK, MAX_ROOM, MAX_SCRIPT_TAGS};
 pub use parsing::parse_script;
 pub use printing::print_script;
 pub use refusals::{ScriptReason, ScriptRefusal};
