@@ -1,5 +1,5 @@
 -- From the parts of a filter to what is seen of it.
-use Rattle.std.proofs.Common.{◌^◌, ◌≡◌, ℕ, zero, suc, ◌<◌, ◌≤◌, ◌⊎◌, inl, inr, Bool, true, false, List, [], ◌∷◌, ◌++◌, Option, Some, None, cond, length, map, get_or, refl, ap, sym, ◌∙◌, subst, arith, vec_len, vec_capacity}
+use Rattle.std.proofs.Common.{◌^◌, ◌≡◌, ℕ, zero, suc, ◌+◌, ◌-◌, ◌<◌, ◌≤◌, ◌⊎◌, inl, inr, Bool, true, false, List, [], ◌∷◌, ◌++◌, Option, Some, None, cond, length, length-append, map, get_or, refl, ap, sym, ◌∙◌, subst, arith, vec_len, vec_capacity}
 use Rattle.std.specs.Prelude.{IsTrue, find, is_some, not, option_map, replicate, slice_get, slice_set, take, unwrap_or, ◌==◌, ◌||◌}
 use Rattle.std.specs.List.{list_any, range_with_len}
 use Rattle.std.specs.Option.{option_map_or}
@@ -138,6 +138,14 @@ put_needs f v is kept a p low filed r row =
       omega (arith, kept.sound.room, length_in p f.places.order.listed at.0, kept.room, f.places.rows.ok.0, f.places.spare.ok.0),
     )
 
+without_by : (b : Bool) (x : ℕ) (xs ys : List ℕ) → length ys ≤ length xs → length (cond b (x ∷ ys) ys) ≤ length (x ∷ xs)
+without_by true x xs ys few = omega (arith, few)
+without_by false x xs ys few = omega (arith, few)
+
+without_length : (p : ℕ) (xs : List ℕ) → length (without p xs) ≤ length xs
+without_length p [] = omega arith
+without_length p (x ∷ xs) = without_by (not (p == x)) x xs (without p xs) (without_length p xs)
+
 -- the parts belong together after a row is put or taken out
 pub moved_kept : (f : Inside) → IsKept f → (new : Places) (a p : ℕ) (r : Row) → slice_get f.places.table.items a ≡ Some (Some p) → r.line ≡ a → IsPut f.hosts f.places new p r ⊎ IsRemoved f.hosts f.places new p r → IsKept (record f { places = new })
 moved_kept f kept new a p r filed line (inl put) =
@@ -150,6 +158,7 @@ moved_kept f kept new a p r filed line (inl put) =
       entries = omega (arith, new.rows.ok.0, f.places.rows.ok.0, ap length put.rows, set_length f.places.rows.items p r, kept.entries);
       order = ap (λ o. o.places) put.order ∙ kept.order;
       room = omega (arith, new.rows.ok.0, f.places.rows.ok.0, ap length put.rows, set_length f.places.rows.items p r, kept.room, ap (λ s. vec_capacity s) put.spare);
+      free = omega (arith, ap (λ o. length o.listed) put.order, kept.free);
       hosts = kept.hosts;
       few = kept.few;
     }
@@ -164,6 +173,7 @@ moved_kept f kept new a p r filed line (inr gone) =
       entries = ap (λ t. vec_len t) gone.rows ∙ kept.entries;
       order = ap (λ o. o.places) gone.order ∙ kept.order;
       room = omega (arith, ap (λ t. vec_len t) gone.rows, kept.room, gone.room);
+      free = omega (arith, ap (λ o. length o.listed) gone.order, without_length p f.places.order.listed, kept.free);
       hosts = kept.hosts;
       few = kept.few;
     }
@@ -266,8 +276,15 @@ add_needs f kept p rest parts =
     let new = spare_place f.hosts f.places.table.items f.places.rows.items f.places.order.listed f.places.spare.items rest p kept.sound parts in
     (omega (arith, new.0, f.places.rows.ok.0), omega (arith, new.0, f.places.rows.ok.0, kept.entries, kept.order), new.1)
 
-pub added_kept : (f : Inside) → IsKept f → (new : Places) (a : ℕ) → slice_get f.places.table.items a ≡ Some None → IsAdded f.places new a → IsKept (record f { places = new })
-added_kept f kept new a none added =
+-- an entry is free for a line that has no row
+pub entry_left : (f : Inside) (v : FilterRecord) → seen f ≡ v → IsKept f → (a : ℕ) → slice_get f.places.table.items a ≡ Some None → IsTrue (has_row a v.rows) ⊎ (1 ≤ free_in v) → length f.places.order.listed + f.reserved < f.entries
+entry_left f v is kept a none (inl has) = absurd (false≢true (has_seen f v is kept a None none ∙ true_is (has_row a v.rows) has))
+entry_left f v is kept a none (inr free) =
+    let free_here : 1 ≤ free_in (seen f) = subst (λ (w : FilterRecord). 1 ≤ free_in w) (sym is) free in
+    omega (arith, free_here, shown_length f.hosts f.places.rows.items f.places.order.listed)
+
+pub added_kept : (f : Inside) → IsKept f → (new : Places) (a : ℕ) → slice_get f.places.table.items a ≡ Some None → length f.places.order.listed + f.reserved < f.entries → IsAdded f.places new a → IsKept (record f { places = new })
+added_kept f kept new a none left added =
     record {
       sound = sound_moved f.hosts (slice_set f.places.table.items a (Some added.place)) new.table.items (slice_set f.places.rows.items added.place (held_row a)) new.rows.items (f.places.order.listed ++ added.place ∷ []) new.order.listed added.rest new.spare.items
           (sym added.table) (sym added.rows) (ap (λ o. o.listed) (sym added.order)) (sym added.left)
@@ -276,6 +293,7 @@ added_kept f kept new a none added =
       entries = omega (arith, new.rows.ok.0, f.places.rows.ok.0, ap length added.rows, set_length f.places.rows.items added.place (held_row a), kept.entries);
       order = ap (λ o. o.places) added.order ∙ kept.order;
       room = omega (arith, new.rows.ok.0, f.places.rows.ok.0, ap length added.rows, set_length f.places.rows.items added.place (held_row a), kept.room, added.room);
+      free = omega (arith, ap (λ o. length o.listed) added.order, length-append f.places.order.listed (added.place ∷ []), left);
       hosts = kept.hosts;
       few = kept.few;
     }
@@ -289,6 +307,35 @@ added_seen f kept new a none added =
     ∙ ap (λ (r : FilterRow). rows ++ r ∷ []) (new_row f.hosts a kept.hosts)
     ∙ sym (cond-false (has_row a rows) (map (row_marked (a ∷ []) true) rows) (rows ++ row_held f.hosts a ∷ [])
     (has_by f.hosts f.places.table.items f.places.rows.items f.places.order.listed f.places.spare.items kept.sound a None none))
+
+-- ---- reservations
+
+pub reserved_kept : (f : Inside) (v : FilterRecord) → seen f ≡ v → IsKept f → 1 ≤ free_in v → IsKept (record f { reserved = f.reserved + 1 })
+reserved_kept f v is kept free =
+    let free_here : 1 ≤ free_in (seen f) = subst (λ (w : FilterRecord). 1 ≤ free_in w) (sym is) free in
+    record {
+      sound = kept.sound;
+      lines = kept.lines;
+      entries = kept.entries;
+      order = kept.order;
+      room = kept.room;
+      free = omega (arith, free_here, shown_length f.hosts f.places.rows.items f.places.order.listed);
+      hosts = kept.hosts;
+      few = kept.few;
+    }
+
+pub released_kept : (f : Inside) → IsKept f → IsKept (record f { reserved = f.reserved - 1 })
+released_kept f kept =
+    record {
+      sound = kept.sound;
+      lines = kept.lines;
+      entries = kept.entries;
+      order = kept.order;
+      room = kept.room;
+      free = omega (arith, kept.free);
+      hosts = kept.hosts;
+      few = kept.few;
+    }
 
 -- ---- at first
 
@@ -309,6 +356,7 @@ opened_kept places entries hosts lines few fewer table rows order spare =
       entries = omega (arith, places.rows.ok.0, ap length rows, length-replicate entries blank_row);
       order = ap (λ o. o.places) order;
       room = omega (arith, places.rows.ok.0, ap length rows, length-replicate entries blank_row, places.spare.ok, ap length spare, length-range_with_len 0 entries);
+      free = omega (arith, ap (λ o. length o.listed) order);
       hosts = few;
       few = fewer;
     }

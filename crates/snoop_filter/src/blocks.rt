@@ -5,6 +5,8 @@ use cxl_message::{Line, Span};
 /// its length (CXL 3.1, chapter 3: BISnp for blocks).
 #[derive(Clone, Copy, PartialEq, Eq, Debug)]
 pub struct Block {
+    /// Its first line.
     pub first: Line,
+    /// How many lines it has.
     pub span: Span,
 }

@@ -163,15 +163,12 @@ impl Filter {
         self.reserved -= 1;
     }
 
-    /// How many entries are free: all less the rows and the reservations.
+    /// How many entries are free: all less the rows and the reservations, which are never more.
     #[tactic(auto, using(crate::proofs::Seen::shown_length))]
     pub fn free_entries(&self) -> u32
         ensures free { result ≡ free_in self.now }
     {
-        let rows = self.places.order.len();
-        u32::from(self.entries)
-            .saturating_sub(rows)
-            .saturating_sub(self.reserved)
+        u32::from(self.entries) - self.places.order.len() - self.reserved
     }
 }
 

@@ -13,8 +13,11 @@ use std::alloc::{AllocError, Global};
 /// A row: its line, the listing of each host, and whether it is held.
 #[derive(Clone, Copy)]
 pub struct Row {
+    /// The line.
     pub line: u32,
+    /// How each host is listed for it.
     pub listed: [Listing; 16],
+    /// Whether a task holds it.
     pub held: bool,
 }
 
@@ -30,6 +33,7 @@ const BLANK: Row = Row {
 pub struct Places {
     // For each line the place of its row.
     pub table: Vec<Option<u32>>,
+    /// The rows by place.
     pub rows: Vec<Row>,
     // The places that have a row, by the age of the rows.
     pub order: LinkedOrder,
@@ -167,7 +171,7 @@ fn push_spare(spare: &mut Vec<u32>, place: u32)
     ensures items { spare.new.items ≡ spare.old.items ++ place ∷ [] }
     ensures capacity { vec_capacity spare.old ≤ vec_capacity spare.new }
 {
-    let _ = spare.push(place);
+    spare.push_reserved(place);
 }
 
 /// The numbers below `count`, from 0 on.

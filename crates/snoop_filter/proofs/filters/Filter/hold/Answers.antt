@@ -3,7 +3,7 @@ use Rattle.std.proofs.Common.{List, Some, None, true, refl, ◌∙◌, inl}
 use Rattle.std.specs.Vec.{with_item}
 use Rattle.snoop_filter.specs.Changes.{rows_hold}
 use Rattle.snoop_filter.specs.Rows.{FilterRow}
-use Rattle.snoop_filter.proofs.Seen.{add_needs, added_kept, added_seen, filed_at, held_old, held_stands, moved_kept, place_fits, put_needs, row_is, same_hosts, spare_left, with_rows}
+use Rattle.snoop_filter.proofs.Seen.{add_needs, added_kept, added_seen, entry_left, filed_at, held_old, held_stands, moved_kept, place_fits, put_needs, row_is, same_hosts, spare_left, with_rows}
 use Rattle.snoop_filter.proofs.filters.Filter.hold.Goals as goal
 
 pub index-row-requires : goal.index-row-requires
@@ -38,7 +38,8 @@ add-requires-clause-apart c = add_needs c.self.inside c.self.invariant
 pub invariant_of-self-in-None : goal.invariant_of-self-in-None
 invariant_of-self-in-None c =
     let none = filed_at c.self.inside c.args.self.now c.self.view_is c.self.invariant c.args.line.0 c.index.result.now c.requires.line c.index.ensures None c.in-None.is in
-    added_kept c.self.inside c.self.invariant c.add.new.self c.args.line.0 none c.add.ensures.added
+    let left = entry_left c.self.inside c.args.self.now c.self.view_is c.self.invariant c.args.line.0 none c.requires.room in
+    added_kept c.self.inside c.self.invariant c.add.new.self c.args.line.0 none left c.add.ensures.added
 
 pub returns-in-Some : goal.returns-in-Some
 returns-in-Some c =
