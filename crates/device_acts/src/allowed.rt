@@ -1,5 +1,5 @@
 // Whether an act is allowed: its row holds, and the credits reach for what it sends.
-ghost use Rattle.std.specs.Prelude.{◌≡◌, ◌<◌, is_some, length, option_to_list};
+ghost use Rattle.std.specs.Prelude.{◌≡◌, ◌<◌, is_some, length, option_map, option_to_list};
 ghost use Rattle.cxl_message.specs.declared.events.Act.{Act as Acted};
 ghost use Rattle.cxl_message.specs.declared.events.Cause.{Cause as Caused};
 ghost use Rattle.device_acts.specs.Sections.{paid};
@@ -7,20 +7,20 @@ ghost use Rattle.device_record.specs.Acts.{act_if, acts_or};
 ghost use Rattle.device_record.specs.Answers.{emission_in};
 ghost use Rattle.device_record.specs.Steady.{IsSteady};
 ghost use Rattle.device_rows.specs.Rows.{LinesExist};
+ghost use Rattle.device_state.specs.Decisions.{emission_by};
 
 use cxl_message::{Act, Channel, Line, Tag};
 use device_rows::{
     clean_row, evict_row, finish_row, lacking, return_row, serve_row, snoop_row, start_row,
 };
-use device_state::Tables;
-use emissions::Emitted;
+use device_state::{Decision, Tables};
 
 /// Whether a row holds and the credits reach for what it sends.
-fn is_paid(tables: &Tables, row: Option<Emitted>) -> bool
-    ensures { result ≡ is_some (paid tables.now.kept.credits row) }
+fn is_paid(tables: &Tables, row: Option<Decision>) -> bool
+    ensures { result ≡ is_some (paid tables.now.kept.credits (option_map (emission_by tables.now.kept.memory) row)) }
 {
     match row {
-        Some(emitted) => lacking(tables, &emitted.sends).is_none(),
+        Some(decision) => lacking(tables, decision).is_none(),
         None => false,
     }
 }
@@ -81,7 +81,7 @@ pub fn may_snoop(tables: &Tables, host: u8, line: Line) -> bool
     ensures { result ≡ is_some (emission_in tables.now.setup (Caused.Act (Acted.Snoop host line)) tables.now.kept) }
 {
     match tables.task(line.0) {
-        Some(task) => is_paid(tables, snoop_row(&tables.filter, host, task)),
+        Some(task) => is_paid(tables, snoop_row(tables, host, task)),
         None => false,
     }
 }

@@ -187,9 +187,9 @@ stands_of setup k steady a t found =
     }
 
 grants_by : (purpose : Purpose) (op : NdrOp) (h tag : ℕ) (bytes : Bytes64) (hosts : ℕ) → h < hosts → GrantsTo hosts (finish_emission purpose op h tag bytes).sends
-grants_by Purpose.SharedRead op h tag bytes hosts low = low
-grants_by Purpose.OwningRead op h tag bytes hosts low = low
-grants_by Purpose.Invalidation op h tag bytes hosts low = low
+grants_by Purpose.SharedRead op h tag bytes hosts low = record { host = low; completion = refl }
+grants_by Purpose.OwningRead op h tag bytes hosts low = record { host = low; completion = refl }
+grants_by Purpose.Invalidation op h tag bytes hosts low = record { host = low; completion = refl }
 grants_by Purpose.Eviction op h tag bytes hosts low = tt
 
 -- it may finish

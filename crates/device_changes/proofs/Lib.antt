@@ -7,3 +7,4 @@ pub mod Acts
 pub mod Takes
 pub mod Paying
 pub mod Steps
+pub mod Heads

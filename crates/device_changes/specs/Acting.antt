@@ -1,9 +1,11 @@
 -- What the rows of the device ask of the parts that they change, and what they leave of the filter.
-use Rattle.std.specs.Prelude.{List, Option, Some, false, length, option_and_then, true, ℕ, ◌+◌, ◌<◌, ◌≡◌, ◌≤◌}
+use Rattle.std.specs.Prelude.{IsSome, List, Option, Some, false, length, option_and_then, true, ℕ, ◌+◌, ◌<◌, ◌≡◌, ◌≤◌}
+use Rattle.cxl_message.specs.declared.events.Out.{Out}
 use Rattle.cxl_message.specs.declared.events.Sends.{Sends}
 use Rattle.cxl_message.specs.declared.opcodes.RspOp.{RspOp}
 use Rattle.cxl_message.specs.Codes.{span_len}
 use Rattle.cxl_message.specs.Lists.{is_in}
+use Rattle.coherence_model.specs.Copies.{ndr_op_of}
 use Rattle.coherence_model.specs.Room.{Room}
 use Rattle.snoop_filter.specs.declared.blocks.Block.{Block}
 use Rattle.snoop_filter.specs.Filters.{FilterRecord}
@@ -58,11 +60,16 @@ pub record IsAnswer (op : RspOp) (h a low : ℕ) (tasks : List TaskRecord) (f : 
 abbrev pub finished_filter : ℕ → Sends → Option TaskRecord → FilterRecord → FilterRecord
 finished_filter a sends t f = record f { rows = rows_finished a sends t f.rows; reserved = reserved_finished t f.reserved }
 
--- the host of a grant is below a number (own rule)
+-- a completion goes to a host below a number (own rule)
+pub record Completes (hosts : ℕ) (o : Out) : Type 0 where
+  pub host : o.host < hosts
+  pub completion : IsSome (ndr_op_of o.message)
+
+-- if anything is sent, a completion comes first, which goes to a host below a number (own rule)
 abbrev pub GrantsTo : ℕ → Sends → Type 0
 GrantsTo hosts Sends.Nothing = Unit {0}
-GrantsTo hosts (Sends.One o) = o.host < hosts
-GrantsTo hosts (Sends.Two o _) = o.host < hosts
+GrantsTo hosts (Sends.One o) = Completes hosts o
+GrantsTo hosts (Sends.Two o _) = Completes hosts o
 
 -- a task stands that may finish: its grant goes to a host, and there are entries for what its Finish leaves (own rule)
 pub record MayFinish (a : ℕ) (sends : Sends) (tasks : List TaskRecord) (f : FilterRecord) (hosts : ℕ) : Type 0 where

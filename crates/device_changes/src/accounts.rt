@@ -1,14 +1,16 @@
 // The buffered requests and the credits of one host among those of all.
 ghost use Rattle.std.specs.Prelude.{◌≡◌, ◌<◌, ◌++◌, ◌∷◌, [], length, map};
 ghost use Rattle.device_record.specs.BufferChanges.{request_roomed, without_request};
-ghost use Rattle.device_record.specs.CreditChanges.{credit_took, credits_paid, out_paid};
+ghost use Rattle.device_record.specs.CreditChanges.{credit_took, credits_paid, one_returned, one_spent};
 ghost use Rattle.device_record.specs.Record.{credits_at, request_with, requests_at};
 ghost use Rattle.device_record.specs.Tables.{changed_at};
-ghost use Rattle.device_changes.specs.Paying.{MayPay, MayPayOne};
-ghost use Rattle.device_tables.specs.Crediting.{HasMore};
+ghost use Rattle.device_changes.specs.Paying.{MayPay};
+ghost use Rattle.device_state.specs.Decisions.{heads_sent};
+ghost use Rattle.device_tables.specs.Crediting.{HasMore, MayGiveBack, MaySpend};
 ghost use Rattle.device_tables.specs.Waiting.{room_seen};
 
-use cxl_message::{Message, Out, Sends, Tag};
+use cxl_message::{Channel, Message, Tag};
+use device_state::Decision;
 use device_tables::{HostCredits, Progress, Requests, Waiting};
 
 /// Buffers a request of a host. There is room for it.
@@ -49,26 +51,39 @@ pub fn took_at(credits: &mut Vec<HostCredits>, host: u8, message: &Message)
     own.take(message);
 }
 
-/// A message was sent, which a credit pays for.
-fn sent_at(credits: &mut Vec<HostCredits>, out: &Out)
-    requires { MayPayOne out.now credits.old.items }
-    ensures { credits.new.items ≡ out_paid out.now credits.old.items }
+/// A message was sent to a host on a channel, of which a credit is left.
+fn spent_at(credits: &mut Vec<HostCredits>, host: u8, channel: Channel)
+    requires host { host < length credits.old.items }
+    requires left { MaySpend channel (credits_at host credits.old.items) }
+    ensures { credits.new.items ≡ changed_at host (one_spent channel) credits.old.items }
 {
-    let own = &mut credits[out.host as usize];
-    own.send(&out.message);
+    let own = &mut credits[host as usize];
+    own.spend(channel);
 }
 
-/// Messages were sent, which credits pay for.
-pub fn pay(credits: &mut Vec<HostCredits>, sends: &Sends)
-    requires { MayPay sends.now credits.old.items }
-    ensures { credits.new.items ≡ credits_paid sends.now credits.old.items }
+/// A Credit for a channel was sent to a host, which it is owed.
+fn given_back_at(credits: &mut Vec<HostCredits>, host: u8, channel: Channel)
+    requires host { host < length credits.old.items }
+    requires owed { MayGiveBack channel (credits_at host credits.old.items) }
+    ensures { credits.new.items ≡ changed_at host (one_returned channel) credits.old.items }
 {
-    match sends {
-        Sends::Nothing => {}
-        Sends::One(out) => sent_at(credits, out),
-        Sends::Two(first, second) => {
-            sent_at(credits, first);
-            sent_at(credits, second);
+    let own = &mut credits[host as usize];
+    own.give_back(channel);
+}
+
+/// What was decided was sent, which credits pay for.
+pub fn pay(credits: &mut Vec<HostCredits>, decision: Decision)
+    requires { MayPay (heads_sent decision) credits.old.items }
+    ensures { credits.new.items ≡ credits_paid (heads_sent decision) credits.old.items }
+{
+    match decision {
+        Decision::Nothing => {}
+        Decision::Completion { host, .. } => spent_at(credits, host, Channel::Ndr),
+        Decision::Grant { host, .. } => {
+            spent_at(credits, host, Channel::Ndr);
+            spent_at(credits, host, Channel::Drs);
         }
+        Decision::Snoop { host, .. } => spent_at(credits, host, Channel::BiSnp),
+        Decision::Credit { host, channel } => given_back_at(credits, host, channel),
     }
 }

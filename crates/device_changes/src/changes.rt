@@ -7,30 +7,36 @@ ghost use Rattle.cxl_message.specs.declared.messages.Message.{Message as Message
 ghost use Rattle.device_record.specs.BufferChanges.{request_taken};
 ghost use Rattle.device_record.specs.Changes.{device_after};
 ghost use Rattle.device_changes.specs.Passing.{MayStep, MayTake};
+ghost use Rattle.device_state.specs.Decisions.{emission_by, heads_sent};
 
 use crate::accounts::{buffer_at, pay, took_at};
 use crate::tasks::{answered, finish, snoop};
 use crate::waiting::{clean, evict, start};
 use crate::writes::serve;
 use cxl_message::{Act, BiTag, Cause, Line, Message, Meta, ReqOp, RspOp, SnpType, Tag};
-use device_state::Tables;
+use device_state::{Decision, Tables};
 use device_tables::{Progress, Waiting};
-use emissions::Emitted;
 
-/// Makes of what the device keeps what is kept after an event with this cause that emits this, where the device may step
-/// so.
-pub fn change(tables: &mut Tables, cause: &Cause, emitted: &Emitted)
-    requires may { MayStep tables.old.setup tables.old.kept cause.now emitted.now }
-    ensures changed { tables.new ≡ record tables.old { kept = device_after tables.old.setup cause.now emitted.now.sends tables.old.kept } }
+/// Makes of what the device keeps what is kept after an event with this cause by which this was decided, where the device
+/// may step so.
+pub fn change(tables: &mut Tables, cause: &Cause, decision: Decision)
+    requires may { MayStep tables.old.setup tables.old.kept cause.now (emission_by tables.old.kept.memory decision) }
+    ensures changed { tables.new ≡ record tables.old { kept = device_after tables.old.setup cause.now (emission_by tables.old.kept.memory decision).sends tables.old.kept } }
 {
     match cause {
         Cause::Op { .. } => unreachable!("the device has no operations"),
         Cause::Take { host, message } => take(tables, *host, message),
-        Cause::Act(act) => {
-            act_on(tables, act, emitted);
-            pay(&mut tables.credits, &emitted.sends);
-        }
+        Cause::Act(act) => make(tables, act, decision),
     }
+}
+
+/// V3 to V9: an act is done, and what it sends is paid for.
+fn make(tables: &mut Tables, act: &Act, decision: Decision)
+    requires { MayStep tables.old.setup tables.old.kept (Caused.Act act.now) (emission_by tables.old.kept.memory decision) }
+    ensures { tables.new ≡ record tables.old { kept = device_after tables.old.setup (Caused.Act act.now) (heads_sent decision) tables.old.kept } }
+{
+    act_on(tables, act, decision);
+    pay(&mut tables.credits, decision);
 }
 
 /// V1 and V2: a message is buffered, answers a snoop or is a Credit, and it is counted.
@@ -100,9 +106,9 @@ fn answer(tables: &mut Tables, host: u8, op: RspOp, bitag: BiTag, low: u8)
 }
 
 /// V3 to V9, the credits aside.
-fn act_on(tables: &mut Tables, act: &Act, emitted: &Emitted)
-    requires { MayStep tables.old.setup tables.old.kept (Caused.Act act.now) emitted.now }
-    ensures { tables.new ≡ record tables.old { kept = record (device_after tables.old.setup (Caused.Act act.now) emitted.now.sends tables.old.kept) { credits = tables.old.kept.credits } } }
+fn act_on(tables: &mut Tables, act: &Act, decision: Decision)
+    requires { MayStep tables.old.setup tables.old.kept (Caused.Act act.now) (emission_by tables.old.kept.memory decision) }
+    ensures { tables.new ≡ record tables.old { kept = record (device_after tables.old.setup (Caused.Act act.now) (heads_sent decision) tables.old.kept) { credits = tables.old.kept.credits } } }
 {
     match act {
         Act::Serve { host, tag } => {
@@ -130,7 +136,7 @@ fn act_on(tables: &mut Tables, act: &Act, emitted: &Emitted)
             );
         }
         Act::Snoop { host, line } => snoop(&mut tables.tasks, *line, *host),
-        Act::Finish(line) => end(tables, *line, emitted),
+        Act::Finish(line) => end(tables, *line, decision),
         Act::DeviceReturn { .. } => {}
         Act::Conflict(_) => unreachable!("it is a host's"),
         Act::WriteBack(_) => unreachable!("it is a host's"),
@@ -141,15 +147,15 @@ fn act_on(tables: &mut Tables, act: &Act, emitted: &Emitted)
 }
 
 /// V8, the credits aside.
-fn end(tables: &mut Tables, line: Line, emitted: &Emitted)
-    requires { MayStep tables.old.setup tables.old.kept (Caused.Act (Acted.Finish line)) emitted.now }
-    ensures { tables.new ≡ record tables.old { kept = record (device_after tables.old.setup (Caused.Act (Acted.Finish line)) emitted.now.sends tables.old.kept) { credits = tables.old.kept.credits } } }
+fn end(tables: &mut Tables, line: Line, decision: Decision)
+    requires { MayStep tables.old.setup tables.old.kept (Caused.Act (Acted.Finish line)) (emission_by tables.old.kept.memory decision) }
+    ensures { tables.new ≡ record tables.old { kept = record (device_after tables.old.setup (Caused.Act (Acted.Finish line)) (heads_sent decision) tables.old.kept) { credits = tables.old.kept.credits } } }
 {
     finish(
         &mut tables.requests,
         &mut tables.filter,
         &mut tables.tasks,
         line,
-        &emitted.sends,
+        decision,
     );
 }

@@ -2,7 +2,6 @@
 ghost use Rattle.std.specs.Prelude.{◌≡◌, ◌+◌, ◌<◌, ◌≤◌, [], Some, length, map, true};
 ghost use Rattle.std.specs.Option.{option_map_or};
 ghost use Rattle.cxl_message.specs.Spans.{lines_of};
-ghost use Rattle.coherence_model.specs.Copies.{ndr_op_of};
 ghost use Rattle.coherence_model.specs.DirectoryChanges.{granted_listing, listing_after_response};
 ghost use Rattle.coherence_model.specs.Tasks.{is_eviction as is_eviction_in};
 ghost use Rattle.cxl_message.specs.declared.states.Listing.{Listing as Listed};
@@ -12,6 +11,7 @@ ghost use Rattle.device_record.specs.Record.{task_at};
 ghost use Rattle.device_record.specs.RowChanges.{lines_answered, rows_granted};
 ghost use Rattle.device_record.specs.Steady.{AscendFrom};
 ghost use Rattle.device_record.specs.TaskChanges.{lines_still_left, task_left, tasks_without};
+ghost use Rattle.device_state.specs.Decisions.{heads_sent};
 ghost use Rattle.device_tables.specs.Tasks.{purpose_seen};
 ghost use Rattle.device_changes.specs.Acting.{GrantsTo, IsAnswer, MayFinish, StandsAt, finished_filter};
 ghost use Rattle.cxl_message.specs.declared.opcodes.RspOp.{RspOp as Rsp};
@@ -20,7 +20,8 @@ ghost use Rattle.snoop_filter.specs.Rows.{held_in};
 use crate::accounts::progress_at;
 use crate::blocks::{let_go_lines, unlist_lines};
 use block_snoop::span_len;
-use cxl_message::{Line, Listing, Message, NdrOp, RspOp, Sends};
+use cxl_message::{Line, Listing, NdrOp, RspOp};
+use device_state::Decision;
 use device_tables::{Progress, Requests, TaskKind, Tasks};
 use snoop_filter::Filter;
 
@@ -76,18 +77,18 @@ pub fn finish(
     filter: &mut Filter,
     tasks: &mut Tasks,
     line: Line,
-    sends: &Sends,
+    decision: Decision,
 )
-    requires may { MayFinish line.0 sends.now tasks.old.tasks filter.old (length requests.old.items) }
+    requires may { MayFinish line.0 (heads_sent decision) tasks.old.tasks filter.old (length requests.old.items) }
     requires ascend { AscendFrom 0 tasks.old.tasks }
     requires small { filter.old.lines ≤ 65536 }
     ensures requests { requests.new.items ≡ requests_finished (task_at line.0 tasks.old.tasks) requests.old.items }
-    ensures filter { filter.new ≡ finished_filter line.0 sends.now (task_at line.0 tasks.old.tasks) filter.old }
+    ensures filter { filter.new ≡ finished_filter line.0 (heads_sent decision) (task_at line.0 tasks.old.tasks) filter.old }
     ensures tasks { tasks.new ≡ record tasks.old { tasks = tasks_without line.0 tasks.old.tasks } }
 {
     match tasks.with_first(line.0) {
         Some(task) => {
-            grant(filter, line, sends);
+            grant(filter, line, decision);
             let_go_lines(filter, line.0, span_len(task.block().span));
             if is_eviction(task.kind()) {
                 filter.reserve();
@@ -100,28 +101,27 @@ pub fn finish(
 }
 
 /// Lists the requester of a held line by the grant that is sent to it.
-fn grant(filter: &mut Filter, line: Line, sends: &Sends)
+fn grant(filter: &mut Filter, line: Line, decision: Decision)
     requires line { line.0 < filter.old.lines }
     requires held { held_in line.0 filter.old.rows ≡ true }
-    requires host { GrantsTo filter.old.hosts sends.now }
-    ensures { filter.new ≡ record filter.old { rows = rows_granted line.0 sends.now filter.old.rows } }
+    requires host { GrantsTo filter.old.hosts (heads_sent decision) }
+    ensures { filter.new ≡ record filter.old { rows = rows_granted line.0 (heads_sent decision) filter.old.rows } }
 {
-    match sends {
-        Sends::Nothing => {}
-        Sends::One(out) => filter.set(line, out.host, granted(&out.message)),
-        Sends::Two(out, _) => filter.set(line, out.host, granted(&out.message)),
+    match decision {
+        Decision::Nothing => {}
+        Decision::Completion { host, op, .. } => filter.set(line, host, granted(op)),
+        Decision::Grant { host, op, .. } => filter.set(line, host, granted(op)),
+        Decision::Snoop { .. } => unreachable!("a task ends by a grant"),
+        Decision::Credit { .. } => unreachable!("a task ends by a grant"),
     }
 }
 
 /// How a grant lists its host: S for Cmp-S, else A.
-fn granted(message: &Message) -> Listing
-    ensures { result ≡ option_map_or granted_listing (ndr_op_of message.now) Listed.A }
+fn granted(op: NdrOp) -> Listing
+    ensures { result ≡ granted_listing op }
 {
-    match message {
-        Message::Ndr {
-            op: NdrOp::CmpS,
-            ..
-        } => Listing::S,
+    match op {
+        NdrOp::CmpS => Listing::S,
         _ => Listing::A,
     }
 }

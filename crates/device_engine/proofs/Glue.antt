@@ -1,5 +1,6 @@
 -- From what the agent keeps to the model's words.
-use Rattle.std.proofs.Common.{◌≡◌, ℕ, zero, suc, ◌<◌, Bool, List, [], ◌∷◌, ◌++◌, Option, Some, None, length, map, refl, ap, sym, ◌∙◌, subst, arith}
+use Rattle.std.proofs.Common.{◌≡◌, ℕ, zero, suc, ◌<◌, Bool, List, [], ◌∷◌, ◌++◌, Option, Some, None, Ok, Err, length, map, refl, ap, sym, ◌∙◌, subst, arith}
+use Rattle.std.specs.declared.result.Result.{Result}
 use Rattle.std.specs.Prelude.{flat_map, slice_get}
 use Rattle.cxl_message.specs.declared.events.Act.{Act}
 use Rattle.cxl_message.specs.declared.events.Cause.{Cause}
@@ -36,7 +37,11 @@ use Rattle.device_laws.proofs.Opened.{busy_read, listed_read, memory_read, opene
 use Rattle.device_laws.proofs.Steady.{steady_is}
 use Rattle.device_laws.proofs.Weights.{pending_is, weight_is}
 use Rattle.device_state.specs.Agent.{AgentRecord}
-use Rattle.device_engine.specs.Contract.{StandsFor, StandsForSome, WhereStands, act_of_cause, acts_after}
+use Rattle.device_state.specs.declared.decisions.Decision.{Decision}
+use Rattle.device_state.specs.Decisions.{emission_by}
+use Rattle.device_rows.specs.declared.answers.DeviceRefusal.{DeviceRefusal}
+use Rattle.device_rows.specs.Answering.{answered, decided}
+use Rattle.device_engine.specs.Contract.{IsBy, StandsFor, StandsForSome, WhereStands, act_of_cause, acts_after, emission_of, made}
 
 -- what is read of the record that the agent keeps is what is read of the list's
 of_list : {X : Type 0} (d : AgentRecord) (setup : Configuration) (opening : List (Line × Bytes64)) (mine : List Event) (read : Configuration → DeviceRecord → X) → StandsFor d setup opening mine
@@ -134,3 +139,51 @@ some_after d later some cause w is after =
       mine = event_with device cause w ∷ some.mine;
       stands = subst (λ (s : Configuration). StandsForList later.kept s some.opening (event_with device cause w ∷ some.mine)) (sym stands.setup_is) stands.kept;
     }
+
+-- ---- events in rooms
+
+-- the event that was made answers as was decided
+pub made_as : (memory : List Bytes64) (d : Decision) (cause : Cause) (e : Event) (o : Result Decision DeviceRefusal) → o ≡ Ok d → e ≡ event_with device cause (emission_by memory d) → made (Ok tt) e ≡ decided memory o
+made_as memory d cause e o is event = ap (λ (x : Event). made (Ok tt) x) event ∙ ap (decided memory) (sym is)
+
+-- a refusal answers as was decided
+pub refused_as : (memory : List Bytes64) (r : DeviceRefusal) (e : Event) (o : Result Decision DeviceRefusal) → o ≡ Err r → made (Err r) e ≡ decided memory o
+refused_as memory (DeviceRefusal.NoCredit c) e o is = ap (decided memory) (sym is)
+refused_as memory (DeviceRefusal.Broken rule) e o is = ap (decided memory) (sym is)
+
+-- it is the device's, with its cause
+pub by_device : (cause : Cause) (w : Emission) (e : Event) → e ≡ event_with device cause w → IsBy device cause e
+by_device cause w e event = record { agent = ap (λ (x : Event). x.agent) event; cause_is = ap (λ (x : Event). x.cause) event }
+
+-- what was decided is what the model answers
+pub emits : (memory : List Bytes64) (d : Decision) (o : Result Decision DeviceRefusal) (answer : Answer) → o ≡ Ok d → decided memory o ≡ answer → Answer.Emits (emission_by memory d) ≡ answer
+emits memory d o answer is same = ap (decided memory) (sym is) ∙ same
+
+-- the agent stands for its list with the event that was made
+pub stands_with : (d later : AgentRecord) (decision : Decision) (cause : Cause) (e : Event) → Answer.Emits (emission_by d.kept.memory decision) ≡ answer_in d.setup cause d.kept
+    → later ≡ record d { kept = device_after d.setup cause (emission_by d.kept.memory decision).sends d.kept } → e ≡ event_with device cause (emission_by d.kept.memory decision)
+    → WhereStands d (λ setup opening mine. StandsFor later setup opening (e ∷ mine))
+stands_with d later decision cause e is after event setup opening mine stands =
+    subst (λ (x : Event). StandsFor later setup opening (x ∷ mine)) (sym event) (stands_after d later cause (emission_by d.kept.memory decision) is after setup opening mine stands)
+
+-- an event of the device is that of what it emits
+pub event_by : (cause : Cause) (e : Event) → IsBy device cause e → e ≡ event_with device cause (emission_of e)
+event_by cause e by i = record { agent = by.agent i; cause = by.cause_is i; sends = e.sends; commit = e.commit }
+
+-- what is answered by value is what was made in the room
+pub answered_as : (w : Emission) (e : Event) (o : Result (Unit {0}) DeviceRefusal) → o ≡ Ok tt → w ≡ emission_of e → Answer.Emits w ≡ made o e
+answered_as w e o is same = ap Answer.Emits same ∙ ap (λ (x : Result (Unit {0}) DeviceRefusal). made x e) (sym is)
+
+pub refusal_as : (r : DeviceRefusal) (e : Event) (o : Result (Unit {0}) DeviceRefusal) → o ≡ Err r → answered (Err r) ≡ made o e
+refusal_as (DeviceRefusal.NoCredit c) e o is = ap (λ (x : Result (Unit {0}) DeviceRefusal). made x e) (sym is)
+refusal_as (DeviceRefusal.Broken rule) e o is = ap (λ (x : Result (Unit {0}) DeviceRefusal). made x e) (sym is)
+
+-- an answer that is the same is the model's too
+pub where_same : (d : AgentRecord) (cause : Cause) (a b : Answer) → a ≡ b → WhereStands d (λ setup opening mine. b ≡ device_answer setup opening cause mine) → WhereStands d (λ setup opening mine. a ≡ device_answer setup opening cause mine)
+where_same d cause a b same is setup opening mine stands = same ∙ is setup opening mine stands
+
+-- the agent stands for its list with the event of what is answered by value
+pub stands_by : (d later : AgentRecord) (cause : Cause) (w : Emission) (e : Event) → IsBy device cause e → w ≡ emission_of e → WhereStands d (λ setup opening mine. StandsFor later setup opening (e ∷ mine))
+    → WhereStands d (λ setup opening mine. StandsFor later setup opening (event_with device cause w ∷ mine))
+stands_by d later cause w e by same is setup opening mine stands =
+    subst (λ (x : Event). StandsFor later setup opening (x ∷ mine)) (event_by cause e by ∙ ap (event_with device cause) (sym same)) (is setup opening mine stands)

@@ -1,5 +1,5 @@
 // The device agent.
-ghost use Rattle.std.specs.Prelude.{◌≡◌, ◌<◌, ◌↔◌, ◌∷◌, [], Err, IfOk, OnErr, false, length, slice_get};
+ghost use Rattle.std.specs.Prelude.{◌≡◌, ◌<◌, ◌↔◌, ◌∷◌, [], Err, IfOk, OnErr, OnOk, false, length, slice_get};
 ghost use Rattle.cxl_message.specs.Opening.{opening_fits};
 ghost use Rattle.coherence_model.specs.Directory.{is_busy as is_busy_in};
 ghost use Rattle.coherence_model.specs.DirectoryChanges.{directory};
@@ -9,7 +9,7 @@ ghost use Rattle.coherence_model.specs.Pending.{device_pending};
 ghost use Rattle.coherence_model.specs.Refusals.{device_answer};
 ghost use Rattle.coherence_model.specs.Traces.{device};
 ghost use Rattle.coherence_model.specs.Weight.{device_weight};
-ghost use Rattle.device_engine.specs.Contract.{StandsFor, WhereStands, acts_after};
+ghost use Rattle.device_engine.specs.Contract.{IsBy, StandsFor, WhereStands, acts_after, emission_of, made};
 ghost use Rattle.device_rows.specs.Answering.{answered};
 ghost use Rattle.device_engine.specs.declared.answers.OpenDeviceRefusal.{OpenDeviceRefusal as Refused};
 
@@ -17,9 +17,10 @@ use crate::answers::OpenDeviceRefusal;
 use cxl_message::{Act, Bytes64, Cause, Line, Listing, Opening, Setup};
 use device_acts::{act_at, act_count, pending, weight};
 use device_changes::change;
-use device_rows::{DeviceRefusal, answer};
+use device_rows::{DeviceRefusal, answer_into};
 use device_state::{Tables, open_tables};
 use emissions::Emitted;
+use event_room::{CommitRef, EventRoom};
 use std::alloc::Global;
 use std::marker::Model;
 
@@ -69,7 +70,11 @@ impl DeviceAgent {
     pub fn would(&self, cause: &Cause) -> Result<Emitted, DeviceRefusal>
         ensures answer { WhereStands self.now (λ setup opening mine. answered result ≡ device_answer setup opening cause.now mine) }
     {
-        answer(&self.tables, cause)
+        let mut room = EventRoom::new();
+        match self.would_into(cause, &mut room) {
+            Ok(()) => Ok(emitted(&room)),
+            Err(refusal) => Err(refusal),
+        }
     }
 
     /// Makes the event of a cause, where it would bring one: the device stands for its list with this event then. A refusal
@@ -80,10 +85,40 @@ impl DeviceAgent {
         ensures refused { OnErr result (self.new ≡ self.old) }
         ensures setup { self.new.setup ≡ self.old.setup }
     {
-        match answer(&self.tables, cause) {
-            Ok(emitted) => {
-                change(&mut self.tables, cause, &emitted);
-                Ok(emitted)
+        let mut room = EventRoom::new();
+        match self.step_into(cause, &mut room) {
+            Ok(()) => Ok(emitted(&room)),
+            Err(refusal) => Err(refusal),
+        }
+    }
+
+    /// Makes the event that a cause would bring in a room, as `would` answers it: rule P0 is tried, then the row, then the
+    /// credits for what the row sends, NDR before DRS. The device doesn't change, and a refusal leaves the room as it was.
+    pub fn would_into(&self, cause: &Cause, room: &mut EventRoom) -> Result<(), DeviceRefusal>
+        ensures answer { WhereStands self.now (λ setup opening mine. made result room.new ≡ device_answer setup opening cause.now mine) }
+        ensures event { OnOk result (IsBy device cause.now room.new) }
+        ensures refused { OnErr result (room.new ≡ room.old) }
+    {
+        match answer_into(&self.tables, cause, room) {
+            Ok(_decision) => Ok(()),
+            Err(refusal) => Err(refusal),
+        }
+    }
+
+    /// Makes the event of a cause in a room, where it would bring one, and goes on by it: the device stands for its list with
+    /// the event of the room then. A refusal is the answer of `would_into`; it leaves the device and the room as they were.
+    pub fn step_into(&mut self, cause: &Cause, room: &mut EventRoom) -> Result<(), DeviceRefusal>
+        ensures answer { WhereStands self.old (λ setup opening mine. made result room.new ≡ device_answer setup opening cause.now mine) }
+        ensures event { OnOk result (IsBy device cause.now room.new) }
+        ensures goes_on { OnOk result (WhereStands self.old (λ setup opening mine. StandsFor self.new setup opening (room.new ∷ mine))) }
+        ensures refused { OnErr result (self.new ≡ self.old) }
+        ensures unmade { OnErr result (room.new ≡ room.old) }
+        ensures setup { self.new.setup ≡ self.old.setup }
+    {
+        match answer_into(&self.tables, cause, room) {
+            Ok(decision) => {
+                change(&mut self.tables, cause, decision);
+                Ok(())
             }
             Err(refusal) => Err(refusal),
         }
@@ -148,5 +183,15 @@ impl DeviceAgent {
         ensures weight { WhereStands self.now (λ setup opening mine. result ≡ device_weight setup mine) }
     {
         weight(&self.tables)
+    }
+}
+
+/// What the event of a room sends and commits, by value.
+fn emitted(room: &EventRoom) -> Emitted
+    ensures { result ≡ emission_of room.now }
+{
+    Emitted {
+        sends: room.sends().sends(),
+        commit: room.commit().map(CommitRef::commit),
     }
 }

@@ -5,6 +5,8 @@ use cxl_message::{
     Act, BiTag, Bytes64, Cause, Channel, Line, Listing, Message, Meta, Op, Opening, ReqOp, RspOp,
     RuleNo, Sends, Setup, SnpType, Tag,
 };
+use event_room::EventRoom;
+use std::process::Abort;
 use std::test::Fail;
 
 /// Two hosts, eight lines, one entry, three tags, two credits.
@@ -40,39 +42,45 @@ fn read(tag: u32, line: u32) -> Message {
     }
 }
 
-/// The rule that a device without events names for each cause, or none where it takes it.
-fn first_answers() -> [(Cause, Option<RuleNo>); 14] {
-    let host = 1;
+/// A message that host 1 sends is taken.
+fn take(message: Message) -> Cause {
+    Cause::Take { host: 1, message }
+}
+
+/// The rule that a device without events names for each message, or none where it takes it.
+fn first_takes() -> [(Cause, Option<RuleNo>); 6] {
     let tag = Tag(2);
-    let line = Line(3);
-    let take = |message| Cause::Take { host, message };
+    let answer = Message::BiRsp {
+        op: RspOp::I,
+        bitag: BiTag(3),
+        low: 0,
+    };
+    let credit = Message::Credit {
+        channel: Channel::Ndr,
+    };
     [
         (take(read(2, 3)), None),
         (take(read(3, 3)), Some(RuleNo::P0)),
         (take(read(2, 8)), Some(RuleNo::P0)),
         (take(Message::BiConflict { tag }), None),
-        (
-            take(Message::BiRsp {
-                op: RspOp::I,
-                bitag: BiTag(3),
-                low: 0,
-            }),
-            Some(RuleNo::V2),
-        ),
-        (
-            take(Message::Credit {
-                channel: Channel::Ndr,
-            }),
-            Some(RuleNo::V1),
-        ),
-        (
-            Cause::Op {
-                stream: 0,
-                index: 0,
-                op: Op::Load { line },
-            },
-            Some(RuleNo::P0),
-        ),
+        (take(answer), Some(RuleNo::V2)),
+        (take(credit), Some(RuleNo::V1)),
+    ]
+}
+
+/// The rule that a device without events names for an operation and for each act.
+fn first_acts() -> [(Cause, Option<RuleNo>); 8] {
+    let host = 1;
+    let tag = Tag(2);
+    let line = Line(3);
+    let load = Cause::Op {
+        stream: 0,
+        index: 0,
+        op: Op::Load { line },
+    };
+    let channel = Channel::Req;
+    [
+        (load, Some(RuleNo::P0)),
         (Cause::Act(Act::Serve { host, tag }), Some(RuleNo::V3)),
         (Cause::Act(Act::Clean { host, tag }), Some(RuleNo::V4)),
         (Cause::Act(Act::Start { host, tag }), Some(RuleNo::V5)),
@@ -80,24 +88,18 @@ fn first_answers() -> [(Cause, Option<RuleNo>); 14] {
         (Cause::Act(Act::Snoop { host, line }), Some(RuleNo::V7)),
         (Cause::Act(Act::Finish(line)), Some(RuleNo::V8)),
         (
-            Cause::Act(Act::DeviceReturn {
-                host,
-                channel: Channel::Req,
-            }),
+            Cause::Act(Act::DeviceReturn { host, channel }),
             Some(RuleNo::V9),
         ),
     ]
 }
 
-#[test]
-fn a_device_without_events_answers_each_cause_by_its_row(rt: HostRuntime) -> Result<(), Fail> {
-    let setup = small().expect(&rt, "a setup");
-    let opening = Opening::new(rt.alloc());
-    let device = DeviceAgent::open(rt.alloc(), &setup, &opening)?;
-    for (cause, rule) in first_answers() {
-        match device.would(&cause) {
+/// The device answers causes by these rules, or sends nothing.
+fn answers_by(rt: &impl Abort, device: &DeviceAgent, rows: &[(Cause, Option<RuleNo>)]) {
+    for (cause, rule) in rows {
+        match device.would(cause) {
             Ok(emitted) => {
-                assert_eq!(rt; rule, None);
+                assert_eq!(rt; *rule, None);
                 assert_eq!(rt; emitted.sends, Sends::Nothing);
             }
             Err(refusal) => {
@@ -105,6 +107,33 @@ fn a_device_without_events_answers_each_cause_by_its_row(rt: HostRuntime) -> Res
             }
         }
     }
+}
+
+#[test]
+fn a_device_without_events_answers_each_cause_by_its_row(rt: HostRuntime) -> Result<(), Fail> {
+    let setup = small().expect(&rt, "a setup");
+    let opening = Opening::new(rt.alloc());
+    let device = DeviceAgent::open(rt.alloc(), &setup, &opening)?;
+    answers_by(&rt, &device, &first_takes());
+    answers_by(&rt, &device, &first_acts());
+    Ok(())
+}
+
+#[test]
+fn an_event_is_made_in_its_room_and_a_refusal_leaves_it(rt: HostRuntime) -> Result<(), Fail> {
+    let setup = small().expect(&rt, "a setup");
+    let opening = Opening::new(rt.alloc());
+    let mut device = DeviceAgent::open(rt.alloc(), &setup, &opening)?;
+    let mut room = EventRoom::new();
+    let cause = take(read(2, 3));
+    assert!(rt; device.would_into(&cause, &mut room).is_ok());
+    assert_eq!(rt; room.agent(), 16);
+    assert_eq!(rt; room.event().cause, cause);
+    assert!(rt; device.step_into(&cause, &mut room).is_ok());
+    assert_eq!(rt; room.event().sends, Sends::Nothing);
+    let refused = device.step_into(&cause, &mut room);
+    assert_eq!(rt; refused, Err(DeviceRefusal::Broken(RuleNo::V1)));
+    assert_eq!(rt; room.event().cause, cause);
     Ok(())
 }
 

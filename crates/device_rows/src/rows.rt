@@ -1,21 +1,19 @@
 // The rows of buffered requests and of credits: what a cause sends by what is kept, the credits aside.
-ghost use Rattle.std.specs.Prelude.{◌≡◌, ◌<◌, ◌≤◌, length, nat_le, option_and_then};
+ghost use Rattle.std.specs.Prelude.{◌≡◌, ◌<◌, ◌≤◌, ◌&&◌, IfSome, length, nat_le, option_and_then, option_map};
 ghost use Rattle.cxl_message.specs.declared.channels.Channel.{Channel as Channeled};
-ghost use Rattle.cxl_message.specs.declared.messages.Message.{Message};
 ghost use Rattle.coherence_model.specs.Copies.{asks_for_grant as op_asks_for_grant};
-ghost use Rattle.coherence_model.specs.Emission.{one_send};
+ghost use Rattle.coherence_model.specs.DeviceActs.{device_returns};
 ghost use Rattle.coherence_model.specs.Room.{is_no_eviction};
-ghost use Rattle.coherence_model.specs.Words.{when};
 ghost use Rattle.device_record.specs.Answers.{clean_of, clean_row, evict_of, evict_row, has_room_for as has_room_for_in, has_room_in as has_place_in, return_row as return_row_in, start_of, start_row, wants_eviction_in};
 ghost use Rattle.device_record.specs.Record.{credits_at, owed_on, request_with, requests_at, writes_at};
 ghost use Rattle.device_record.specs.Steady.{IsSteady};
 ghost use Rattle.device_rows.specs.Rows.{LinesExist};
+ghost use Rattle.device_state.specs.Decisions.{HasLine, emission_by};
 ghost use Rattle.device_tables.specs.Waiting.{room_seen};
 
-use cxl_message::{Channel, Line, Message, NdrOp, ReqOp, Tag};
-use device_state::Tables;
+use cxl_message::{Channel, Line, NdrOp, ReqOp, Tag};
+use device_state::{Decision, Tables};
 use device_tables::Progress;
-use emissions::Emitted;
 
 /// V1: whether there is room for one more message of a channel.
 pub fn has_room_for(tables: &Tables, credits: u8, host: u8, channel: Channel) -> bool
@@ -37,9 +35,10 @@ fn has_place(tables: &Tables, progress: Progress, line: Line) -> bool
 }
 
 /// V4: a MemClnEvct whose line isn't held is answered by Cmp.
-fn clean_of(tables: &Tables, host: u8, op: ReqOp, tag: Tag, line: Line) -> Option<Emitted>
+fn clean_of(tables: &Tables, host: u8, op: ReqOp, tag: Tag, line: Line) -> Option<Decision>
     requires line { line.0 < tables.now.kept.filter.lines }
-    ensures { result ≡ clean_of host tables.now.kept.filter.rows (record { op = op; tag = tag; line = line.0 }) }
+    ensures sends { option_map (emission_by tables.now.kept.memory) result ≡ clean_of host tables.now.kept.filter.rows (record { op = op; tag = tag; line = line.0 }) }
+    ensures line { IfSome result (HasLine tables.now.kept.memory) }
 {
     if asks_for_grant(op) {
         return None;
@@ -47,19 +46,18 @@ fn clean_of(tables: &Tables, host: u8, op: ReqOp, tag: Tag, line: Line) -> Optio
     if tables.filter.held(line) {
         return None;
     }
-    Some(Emitted::one_send(
+    Some(Decision::Completion {
         host,
-        Message::Ndr {
-            op: NdrOp::Cmp,
-            tag,
-        },
-    ))
+        op: NdrOp::Cmp,
+        tag,
+    })
 }
 
 /// V4 for a buffered request.
-pub fn clean_row(tables: &Tables, host: u8, tag: Tag) -> Option<Emitted>
+pub fn clean_row(tables: &Tables, host: u8, tag: Tag) -> Option<Decision>
     requires lines { LinesExist tables.now.kept host tag.0 }
-    ensures { result ≡ option_and_then (clean_row host tables.now.kept.filter.rows) (request_with tag.0 (requests_at host tables.now.kept.requests)) }
+    ensures sends { option_map (emission_by tables.now.kept.memory) result ≡ option_and_then (clean_row host tables.now.kept.filter.rows) (request_with tag.0 (requests_at host tables.now.kept.requests)) }
+    ensures line { IfSome result (HasLine tables.now.kept.memory) }
 {
     match tables.request(host, tag) {
         Some(request) => clean_of(tables, host, request.op, request.tag, request.line),
@@ -68,9 +66,16 @@ pub fn clean_row(tables: &Tables, host: u8, tag: Tag) -> Option<Emitted>
 }
 
 /// V5: a MemRd or MemInv whose line isn't held starts where there is room.
-fn start_of(tables: &Tables, progress: Progress, op: ReqOp, tag: Tag, line: Line) -> Option<Emitted>
+fn start_of(
+    tables: &Tables,
+    progress: Progress,
+    op: ReqOp,
+    tag: Tag,
+    line: Line,
+) -> Option<Decision>
     requires line { line.0 < tables.now.kept.filter.lines }
-    ensures { result ≡ start_of tables.now.kept (room_seen progress) (record { op = op; tag = tag; line = line.0 }) }
+    ensures sends { option_map (emission_by tables.now.kept.memory) result ≡ start_of tables.now.kept (room_seen progress) (record { op = op; tag = tag; line = line.0 }) }
+    ensures line { IfSome result (HasLine tables.now.kept.memory) }
 {
     if !asks_for_grant(op) {
         return None;
@@ -79,16 +84,17 @@ fn start_of(tables: &Tables, progress: Progress, op: ReqOp, tag: Tag, line: Line
         return None;
     }
     if has_place(tables, progress, line) {
-        Some(Emitted::nothing())
+        Some(Decision::Nothing)
     } else {
         None
     }
 }
 
 /// V5 for a buffered request.
-pub fn start_row(tables: &Tables, host: u8, tag: Tag) -> Option<Emitted>
+pub fn start_row(tables: &Tables, host: u8, tag: Tag) -> Option<Decision>
     requires lines { LinesExist tables.now.kept host tag.0 }
-    ensures { result ≡ option_and_then (start_row tables.now.kept) (request_with tag.0 (requests_at host tables.now.kept.requests)) }
+    ensures sends { option_map (emission_by tables.now.kept.memory) result ≡ option_and_then (start_row tables.now.kept) (request_with tag.0 (requests_at host tables.now.kept.requests)) }
+    ensures line { IfSome result (HasLine tables.now.kept.memory) }
 {
     match tables.request(host, tag) {
         Some(request) => {
@@ -106,9 +112,16 @@ pub fn start_row(tables: &Tables, host: u8, tag: Tag) -> Option<Emitted>
 
 /// V6: a MemRd or MemInv whose line isn't held and has no row, without an eviction or a reservation, where no entry
 /// is free and there is a victim.
-fn evict_of(tables: &Tables, progress: Progress, op: ReqOp, tag: Tag, line: Line) -> Option<Emitted>
+fn evict_of(
+    tables: &Tables,
+    progress: Progress,
+    op: ReqOp,
+    tag: Tag,
+    line: Line,
+) -> Option<Decision>
     requires line { line.0 < tables.now.kept.filter.lines }
-    ensures { result ≡ evict_of tables.now.kept (room_seen progress) (record { op = op; tag = tag; line = line.0 }) }
+    ensures sends { option_map (emission_by tables.now.kept.memory) result ≡ evict_of tables.now.kept (room_seen progress) (record { op = op; tag = tag; line = line.0 }) }
+    ensures line { IfSome result (HasLine tables.now.kept.memory) }
 {
     if !asks_for_grant(op) {
         return None;
@@ -120,7 +133,7 @@ fn evict_of(tables: &Tables, progress: Progress, op: ReqOp, tag: Tag, line: Line
         return None;
     }
     if tables.filter.victim().is_some() {
-        Some(Emitted::nothing())
+        Some(Decision::Nothing)
     } else {
         None
     }
@@ -141,9 +154,10 @@ fn wants_eviction(tables: &Tables, progress: Progress, line: Line) -> bool
 }
 
 /// V6 for a buffered request.
-pub fn evict_row(tables: &Tables, host: u8, tag: Tag) -> Option<Emitted>
+pub fn evict_row(tables: &Tables, host: u8, tag: Tag) -> Option<Decision>
     requires lines { LinesExist tables.now.kept host tag.0 }
-    ensures { result ≡ option_and_then (evict_row tables.now.kept) (request_with tag.0 (requests_at host tables.now.kept.requests)) }
+    ensures sends { option_map (emission_by tables.now.kept.memory) result ≡ option_and_then (evict_row tables.now.kept) (request_with tag.0 (requests_at host tables.now.kept.requests)) }
+    ensures line { IfSome result (HasLine tables.now.kept.memory) }
 {
     match tables.request(host, tag) {
         Some(request) => {
@@ -159,21 +173,35 @@ pub fn evict_row(tables: &Tables, host: u8, tag: Tag) -> Option<Emitted>
     }
 }
 
-/// V9: a Credit that is owed.
-pub fn return_row(tables: &Tables, host: u8, channel: Channel) -> Option<Emitted>
+/// V9: whether a Credit for a channel is owed to a host.
+fn owes(tables: &Tables, host: u8, channel: Channel) -> bool
     requires steady { IsSteady tables.now.setup tables.now.kept }
     requires host { host < length tables.now.kept.writes }
-    ensures { result ≡ return_row_in host channel tables.now.kept }
+    ensures { result ≡ (device_returns channel && nat_le 1 (owed_on host channel tables.now.kept)) }
 {
     match channel {
-        Channel::Req => credit_owed(host, channel, owed_requests(tables, host)),
-        Channel::Rwd => credit_owed(host, channel, owed_writes(tables, host)),
-        Channel::BiRsp => credit_owed(host, channel, owed_answers(tables, host)),
-        Channel::Ndr => None,
-        Channel::Drs => None,
-        Channel::BiSnp => None,
-        Channel::CreditUp => None,
-        Channel::CreditDown => None,
+        Channel::Req => owed_requests(tables, host) >= 1,
+        Channel::Rwd => owed_writes(tables, host) >= 1,
+        Channel::BiRsp => owed_answers(tables, host) >= 1,
+        Channel::Ndr => false,
+        Channel::Drs => false,
+        Channel::BiSnp => false,
+        Channel::CreditUp => false,
+        Channel::CreditDown => false,
+    }
+}
+
+/// V9: a Credit that is owed.
+pub fn return_row(tables: &Tables, host: u8, channel: Channel) -> Option<Decision>
+    requires steady { IsSteady tables.now.setup tables.now.kept }
+    requires host { host < length tables.now.kept.writes }
+    ensures sends { option_map (emission_by tables.now.kept.memory) result ≡ return_row_in host channel tables.now.kept }
+    ensures line { IfSome result (HasLine tables.now.kept.memory) }
+{
+    if owes(tables, host, channel) {
+        Some(Decision::Credit { host, channel })
+    } else {
+        None
     }
 }
 
@@ -210,17 +238,6 @@ fn buffered(tables: &Tables, host: u8) -> u8
     match tables.requests.get(host as usize) {
         Some(requests) => requests.waiting().len() as u8,
         None => 0,
-    }
-}
-
-/// A Credit for a channel where some are owed.
-fn credit_owed(host: u8, channel: Channel, owed: u8) -> Option<Emitted>
-    ensures { result ≡ when (nat_le 1 owed) (one_send host (Message.Credit channel)) }
-{
-    if owed >= 1 {
-        Some(Emitted::one_send(host, Message::Credit { channel }))
-    } else {
-        None
     }
 }
 

@@ -1,62 +1,54 @@
 // The rows of a task: its answers, its snoops and its end.
-ghost use Rattle.std.specs.Prelude.{◌≡◌, ◌+◌, ◌<◌, ◌≤◌, ◌==◌, ◌&&◌, length, not};
+ghost use Rattle.std.specs.Prelude.{◌≡◌, ◌+◌, ◌<◌, ◌≤◌, ◌==◌, ◌&&◌, IfSome, length, not, option_map};
 ghost use Rattle.cxl_message.specs.Codes.{span_len};
-ghost use Rattle.coherence_model.specs.DeviceActs.{finish_emission, grant_with_data, snoop_op};
+ghost use Rattle.coherence_model.specs.DeviceActs.{finish_emission, snoop_op};
 ghost use Rattle.coherence_model.specs.Snoops.{invalidates_block};
 ghost use Rattle.coherence_model.specs.Words.{when};
 ghost use Rattle.device_record.specs.Answers.{grant_in, is_answer_to as is_answer_to_in, is_asked_by, is_finished as is_finished_in, is_wanted, reads_shared as is_shared_read, snoop_row as snoop_row_in};
 ghost use Rattle.device_record.specs.Record.{bytes_in};
+ghost use Rattle.device_state.specs.Decisions.{HasLine, emission_by};
+ghost use Rattle.device_state.specs.declared.decisions.Decision.{Decision as DecisionOf};
 ghost use Rattle.device_tables.specs.Tasks.{purpose_seen};
 ghost use Rattle.snoop_filter.specs.Rows.{is_some_listing, listed_in};
 
 use block_snoop::is_asked;
-use cxl_message::{BiTag, Listing, Message, NdrOp, RspOp, SnpOp, Span};
-use device_state::Tables;
+use cxl_message::{BiTag, Listing, NdrOp, RspOp, SnpOp, Span};
+use device_state::{Decision, Tables};
 use device_tables::{Task, TaskKind};
-use emissions::Emitted;
 use snoop_filter::Filter;
 
 /// V8: a task by which no host is Asked or to be asked.
-pub fn finish_row(tables: &Tables, task: &Task) -> Option<Emitted>
+pub fn finish_row(tables: &Tables, task: &Task) -> Option<Decision>
     requires lines { task.now.first + span_len task.now.span ≤ tables.now.kept.filter.lines }
     requires memory { task.now.first < length tables.now.kept.memory }
-    ensures { result ≡ when (is_finished_in tables.now.kept.filter.hosts tables.now.kept.filter.rows task.now) (finish_emission task.now.purpose (grant_in tables.now.kept.filter.hosts tables.now.kept.filter.rows task.now) task.now.host task.now.tag (bytes_in tables.now.kept.memory task.now.first)) }
+    ensures sends { option_map (emission_by tables.now.kept.memory) result ≡ when (is_finished_in tables.now.kept.filter.hosts tables.now.kept.filter.rows task.now) (finish_emission task.now.purpose (grant_in tables.now.kept.filter.hosts tables.now.kept.filter.rows task.now) task.now.host task.now.tag (bytes_in tables.now.kept.memory task.now.first)) }
+    ensures line { IfSome result (HasLine tables.now.kept.memory) }
 {
     if !is_finished(&tables.filter, task) {
         return None;
     }
-    let host = task.host();
     match task.kind() {
-        TaskKind::SharedRead => {
-            let grant = shared_grant(&tables.filter, task);
-            Some(granted(tables, task, grant))
-        }
-        TaskKind::OwningRead => Some(granted(tables, task, NdrOp::CmpE)),
-        TaskKind::Invalidation => Some(Emitted::one_send(
-            host,
-            Message::Ndr {
-                op: NdrOp::CmpE,
-                tag: task.tag(),
-            },
-        )),
-        TaskKind::Eviction => Some(Emitted::nothing()),
+        TaskKind::SharedRead => Some(granted(task, shared_grant(&tables.filter, task))),
+        TaskKind::OwningRead => Some(granted(task, NdrOp::CmpE)),
+        TaskKind::Invalidation => Some(Decision::Completion {
+            host: task.host(),
+            op: NdrOp::CmpE,
+            tag: task.tag(),
+        }),
+        TaskKind::Eviction => Some(Decision::Nothing),
     }
 }
 
-/// A grant with its data.
-fn granted(tables: &Tables, task: &Task, op: NdrOp) -> Emitted
-    requires { task.now.first < length tables.now.kept.memory }
-    ensures { result ≡ grant_with_data op task.now.host task.now.tag (bytes_in tables.now.kept.memory task.now.first) }
+/// A grant with the data of the first line of a task.
+fn granted(task: &Task, op: NdrOp) -> Decision
+    ensures { result ≡ DecisionOf.Grant task.now.host op (record { 0 = task.now.tag }) (record { 0 = task.now.first }) }
 {
-    let completion = Message::Ndr {
+    Decision::Grant {
+        host: task.host(),
         op,
         tag: task.tag(),
-    };
-    let data = Message::MemData {
-        tag: task.tag(),
-        bytes: tables.bytes(task.block().first),
-    };
-    Emitted::two_sends(task.host(), completion, data)
+        line: task.block().first,
+    }
 }
 
 /// Whether a listing is S or A.
@@ -122,26 +114,27 @@ fn is_block(task: &Task) -> bool
 }
 
 /// V7: a host that is to be asked by a task and isn't Asked.
-pub fn snoop_row(filter: &Filter, host: u8, task: &Task) -> Option<Emitted>
-    requires lines { task.now.first + span_len task.now.span ≤ filter.now.lines }
-    requires few { filter.now.lines ≤ 65536 }
-    requires host { host < filter.now.hosts }
-    ensures { result ≡ snoop_row_in host filter.now.rows task.now }
+pub fn snoop_row(tables: &Tables, host: u8, task: &Task) -> Option<Decision>
+    requires lines { task.now.first + span_len task.now.span ≤ tables.now.kept.filter.lines }
+    requires few { tables.now.kept.filter.lines ≤ 65536 }
+    requires host { host < tables.now.kept.filter.hosts }
+    ensures sends { option_map (emission_by tables.now.kept.memory) result ≡ snoop_row_in host tables.now.kept.filter.rows task.now }
+    ensures line { IfSome result (HasLine tables.now.kept.memory) }
 {
-    if !is_asked(filter, task.block(), task.asks_for(), host) {
+    if !is_asked(&tables.filter, task.block(), task.asks_for(), host) {
         return None;
     }
     if task.has_asked(host) {
         return None;
     }
     let line = task.block().first;
-    let snoop = Message::BiSnp {
+    Some(Decision::Snoop {
+        host,
         op: snoop_of(task.kind(), task.block().span),
         bitag: BiTag(line.0 as u16),
         line,
         span: task.block().span,
-    };
-    Some(Emitted::one_send(host, snoop))
+    })
 }
 
 /// V8: whether no host is Asked by a task or to be asked.

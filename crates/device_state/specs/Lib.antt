@@ -1,2 +1,3 @@
 pub mod Agent
 pub mod Room
+pub mod Decisions

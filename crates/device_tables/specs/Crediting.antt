@@ -1,7 +1,6 @@
 -- Bounds of what the device counts of a host's channels.
 use Rattle.std.specs.Prelude.{ℕ, ◌<◌, ◌≤◌}
 use Rattle.cxl_message.specs.declared.channels.Channel.{Channel}
-use Rattle.cxl_message.specs.declared.messages.Message.{Message}
 use Rattle.device_record.specs.Record.{CreditRecord}
 
 -- no number of a host is more than so many (own rule)
@@ -28,13 +27,13 @@ MayGiveBack Channel.BiSnp c = Unit {0}
 MayGiveBack Channel.CreditUp c = Unit {0}
 MayGiveBack Channel.CreditDown c = Unit {0}
 
--- a message may be sent: a credit of its channel is left, or a Credit may be given back; the device sends no other (own rule)
-abbrev pub MaySend : Message → CreditRecord → Type 0
-MaySend (Message.Req _ _ _ _ _) c = Unit {0}
-MaySend (Message.MemWr _ _ _ _ _) c = Unit {0}
-MaySend (Message.BiConflict _) c = Unit {0}
-MaySend (Message.BiRsp _ _ _) c = Unit {0}
-MaySend (Message.Ndr _ _) c = 1 ≤ c.ndr_left
-MaySend (Message.MemData _ _) c = 1 ≤ c.drs_left
-MaySend (Message.BiSnp _ _ _ _) c = 1 ≤ c.snp_left
-MaySend (Message.Credit d) c = MayGiveBack d c
+-- a message may be sent on a channel: a credit of it is left; the device sends on no other (own rule)
+abbrev pub MaySpend : Channel → CreditRecord → Type 0
+MaySpend Channel.Req c = ⊥
+MaySpend Channel.Rwd c = ⊥
+MaySpend Channel.BiRsp c = ⊥
+MaySpend Channel.Ndr c = 1 ≤ c.ndr_left
+MaySpend Channel.Drs c = 1 ≤ c.drs_left
+MaySpend Channel.BiSnp c = 1 ≤ c.snp_left
+MaySpend Channel.CreditUp c = ⊥
+MaySpend Channel.CreditDown c = ⊥

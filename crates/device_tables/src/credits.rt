@@ -1,9 +1,9 @@
 // What the device counts of the channels of a host.
 ghost use Rattle.std.specs.Prelude.{◌≡◌, ◌<◌, nat_lt};
-ghost use Rattle.device_record.specs.CreditChanges.{credit_sent, credit_took, one_earned, one_held, one_returned, one_spent};
+ghost use Rattle.device_record.specs.CreditChanges.{credit_took, one_earned, one_held, one_returned, one_spent};
 ghost use Rattle.device_record.specs.Record.{held_on, left_on};
 ghost use Rattle.device_record.specs.Opened.{full_credits};
-ghost use Rattle.device_tables.specs.Crediting.{HasMore, MayGiveBack, MaySend};
+ghost use Rattle.device_tables.specs.Crediting.{HasMore, MayGiveBack, MaySpend};
 
 use cxl_message::{Channel, Message};
 use std::marker::Model;
@@ -111,25 +111,25 @@ impl HostCredits {
         }
     }
 
-    /// A message was sent to the host. A credit of its channel is left; for a Credit, a message is held that it is for.
-    pub fn send(&mut self, message: &Message)
-        requires { MaySend message.now self.old }
-        ensures { self.new ≡ credit_sent message.now self.old }
+    /// A message was sent to the host on NDR, DRS or BISnp, of which a credit is left.
+    pub fn spend(&mut self, channel: Channel)
+        requires { MaySpend channel self.old }
+        ensures { self.new ≡ one_spent channel self.old }
     {
-        match message {
-            Message::Req { .. } => {}
-            Message::MemWr { .. } => {}
-            Message::BiConflict { .. } => {}
-            Message::BiRsp { .. } => {}
-            Message::Ndr { .. } => self.ndr_left -= 1,
-            Message::MemData { .. } => self.drs_left -= 1,
-            Message::BiSnp { .. } => self.snp_left -= 1,
-            Message::Credit { channel } => self.give_back(*channel),
+        match channel {
+            Channel::Ndr => self.ndr_left -= 1,
+            Channel::Drs => self.drs_left -= 1,
+            Channel::BiSnp => self.snp_left -= 1,
+            Channel::Req => unreachable!("it goes to the device"),
+            Channel::Rwd => unreachable!("it goes to the device"),
+            Channel::BiRsp => unreachable!("it goes to the device"),
+            Channel::CreditUp => unreachable!("a Credit takes no credit"),
+            Channel::CreditDown => unreachable!("a Credit takes no credit"),
         }
     }
 
-    /// A Credit for a channel was sent. A message of it is held.
-    fn give_back(&mut self, channel: Channel)
+    /// A Credit for a channel was sent to the host. A message of it is held.
+    pub fn give_back(&mut self, channel: Channel)
         requires { MayGiveBack channel self.old }
         ensures { self.new ≡ one_returned channel self.old }
     {

@@ -26,11 +26,17 @@ pub enum Progress {
 /// A buffered Req message, and how far it is.
 #[derive(Clone, Copy)]
 pub struct Waiting {
+    /// The opcode.
     pub op: ReqOp,
+    /// The Meta0-State value.
     pub meta: Meta,
+    /// The snoop type.
     pub snp: SnpType,
+    /// The Tag of the request.
     pub tag: Tag,
+    /// The line that it asks for.
     pub line: Line,
+    /// How far the eviction for it is.
     pub progress: Progress,
 }
 

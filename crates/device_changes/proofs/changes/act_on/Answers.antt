@@ -1,5 +1,8 @@
 -- What each act asks holds where the device may step.
-use Rattle.std.proofs.Common.{◌<◌, length, refl, arith}
+use Rattle.std.proofs.Common.{◌<◌, length, refl, ap, arith}
+use Rattle.device_tables.specs.Tasks.{TaskList}
+use Rattle.device_state.specs.Decisions.{heads_sent}
+use Rattle.device_changes.proofs.Heads.{snooped}
 use Rattle.device_changes.proofs.Acts.{act_inside, clean_waits, evict_may, evict_room, start_may, start_room, start_waits, write_fits}
 use Rattle.device_changes.proofs.changes.act_on.Goals as goal
 
@@ -34,3 +37,7 @@ evict-requires-clause-room c =
     let may = act_inside _ _ _ _ _ _ c.tables-in-Evict.view_is c.in-Evict.is refl c.requires in
     let low : length c.tables-in-Evict.inside.tasks.tasks < c.tables-in-Evict.inside.setup.lines = evict_room _ _ c.in-Evict.host c.in-Evict.tag _ may in
     omega (arith, low, c.tables-in-Evict.invariant.tasks)
+
+pub returns-in-Snoop : goal.returns-in-Snoop
+returns-in-Snoop c =
+    snooped c.args.tables.now _ c.snoop.new.tasks.tasks c.args.act.now c.in-Snoop.host c.in-Snoop.line (heads_sent c.args.decision) c.tables-in-Snoop.view_is c.in-Snoop.is (ap (λ (t : TaskList). t.tasks) c.snoop.ensures)

@@ -1,18 +1,21 @@
--- The answer by what is kept is the model's.
-use Rattle.std.proofs.Common.{◌≡◌, ◌<◌, sym, subst, ap, arith}
-use Rattle.device_state.specs.Agent.{AgentRecord}
-use Rattle.device_engine.specs.Contract.{WhereStands}
+-- What was made in the room is answered by value.
+use Rattle.std.proofs.Common.{Err}
+use Rattle.coherence_model.specs.Refusals.{Answer}
 use Rattle.device_rows.specs.Answering.{answered}
-use Rattle.coherence_model.specs.Refusals.{device_answer}
-use Rattle.device_engine.proofs.Glue.{answers_are, some_steady}
+use Rattle.device_engine.specs.Contract.{made}
+use Rattle.device_engine.proofs.Glue.{answered_as, refusal_as, where_same}
 use Rattle.device_engine.proofs.agents.DeviceAgent.would.Goals as goal
 
-pub answer-requires : goal.answer-requires
-answer-requires c = some_steady c.self.inside.tables c.self.invariant
-
-pub returns : goal.returns
-returns c =
+pub returns-in-Ok : goal.returns-in-Ok
+returns-in-Ok c =
+    let e = c.would_into.new.room in
     record {
-      answer = subst (λ (d : AgentRecord). WhereStands d (λ setup opening mine. answered c.answer.result ≡ device_answer setup opening c.args.cause.now mine)) c.self.view_is
-          (answers_are c.self.inside.tables c.args.cause.now (answered c.answer.result) c.answer.ensures);
+      answer = where_same c.args.self.now c.args.cause.now (Answer.Emits c.emitted.result) (made c.would_into.result e) (answered_as c.emitted.result e c.would_into.result c.in-Ok.is c.emitted.ensures) c.would_into.ensures.answer;
+    }
+
+pub returns-in-Err : goal.returns-in-Err
+returns-in-Err c =
+    let e = c.would_into.new.room in
+    record {
+      answer = where_same c.args.self.now c.args.cause.now (answered (Err c.in-Err.refusal)) (made c.would_into.result e) (refusal_as c.in-Err.refusal e c.would_into.result c.in-Err.is) c.would_into.ensures.answer;
     }
