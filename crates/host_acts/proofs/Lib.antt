@@ -1,1 +1,2 @@
 pub mod ActCounts
+pub mod Acting

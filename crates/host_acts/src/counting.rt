@@ -6,18 +6,19 @@ ghost use Rattle.cxl_message.specs.declared.events.Act.{Act as TheAct};
 
 use cxl_message::{Act, Channel, Line};
 use held_snoops::HeldSnoop;
-use host_rows::{emitted_by_act, lacking};
+use host_rows::{act_row, lacking};
 use host_tables::HostTables;
 
 /// The channels whose credits a host gives back, in the order of the returns.
 const RETURNS: [Channel; 3] = [Channel::Ndr, Channel::Drs, Channel::BiSnp];
 
 /// Whether an act's row holds, credits included.
+#[tactic(auto, using(crate::proofs::Acting::act_may, crate::proofs::Acting::act_may_not))]
 fn may_act(agent: &HostTables, act: &Act) -> bool
     ensures { result ≡ may_act agent.now act.now }
 {
-    match emitted_by_act(agent, act) {
-        Some(emitted) => lacking(agent, &emitted.sends).is_none(),
+    match act_row(agent, act) {
+        Some(head) => lacking(agent, head).is_none(),
         None => false,
     }
 }

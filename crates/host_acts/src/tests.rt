@@ -1,5 +1,6 @@
 use super::*;
-use cxl_message::{Act, BiTag, Channel, Line, Message, Setup, SnpOp, Span};
+use cxl_message::{Act, BiTag, Cause, Channel, Line, Message, Setup, SnpOp, Span};
+use event_room::EventRoom;
 use host_rows::{step_act, step_take};
 use host_tables::HostTables;
 use std::test::Fail;
@@ -21,11 +22,16 @@ fn acts_are_counted_and_picked_in_their_order(rt: HostRuntime) -> Result<(), Fai
         line,
         span,
     };
-    step_take(&mut host, 0, &snoop)?;
+    let cause = Cause::Take {
+        host: 0,
+        message: snoop,
+    };
+    let mut room = EventRoom::new();
+    step_take(&mut host, &cause, 0, &snoop, &mut room)?;
     assert_eq!(rt; act_count(&host), 1);
     assert_eq!(rt; act_at(&host, 0), Some(Act::Answer(line)));
     assert_eq!(rt; act_at(&host, 1), None);
-    step_act(&mut host, &Act::Answer(line))?;
+    step_act(&mut host, &Act::Answer(line), &mut room)?;
     assert_eq!(rt; act_count(&host), 1);
     assert_eq!(rt; act_at(&host, 0), Some(Act::HostReturn(Channel::BiSnp)));
     assert_eq!(rt; weight(&host), 2);

@@ -1,6 +1,6 @@
 -- The public clauses of an agent follow from what its body does by its record, by the laws of the record.
-use Rattle.std.proofs.Common.{List, [], ap, length, refl, sym, ℕ, ◌<◌, ◌∙◌, ◌∷◌, ◌≡◌}
-use Rattle.std.specs.Prelude.{Err, IfOk, Ok, Result, is_some, slice_get}
+use Rattle.std.proofs.Common.{List, [], ap, length, refl, subst, sym, ℕ, ◌<◌, ◌∙◌, ◌∷◌, ◌≡◌}
+use Rattle.std.specs.Prelude.{Err, IfOk, Ok, OnErr, Result, is_some, slice_get}
 use Rattle.std.specs.List.{list_any}
 use Rattle.std.proofs.lemmas.Bool.{lt-ltb}
 use Rattle.cxl_message.specs.declared.events.Act.{Act}
@@ -27,7 +27,7 @@ use Rattle.host_laws.proofs.Readings.{records_open, records_pend, records_weigh}
 use Rattle.host_acts.specs.Counting.{acts_of_agent}
 use Rattle.host_home.specs.Contract.{StandsFor, answered_by}
 use Rattle.host_rows.specs.declared.answers.HostRefusal.{HostRefusal}
-use Rattle.host_rows.specs.Answers.{as_result}
+use Rattle.host_rows.specs.Answers.{as_result, emission_in, told}
 use Rattle.host_tables.specs.Agent.{AgentRecord, agent_after, event_of, opened_agent}
 
 pub opened_stands : (agent : AgentRecord) (setup : Configuration) (h : ℕ) → IsWithinLimits setup → h < setup.hosts → agent ≡ opened_agent setup h → StandsFor agent setup h []
@@ -73,12 +73,47 @@ event_stands old new cause w setup h mine s ok is =
           ∙ ap {B = AgentRecord} (λ k. record { setup = setup; host = h; kept = k }) (sym (records_follow setup [] s.within h s.host (event_of h cause w) mine run));
     }
 
--- the same by the result of the step
+-- an event is that of its agent and its cause
+event_is : (e : Event) (h : ℕ) (cause : Cause) → e.agent ≡ h → e.cause ≡ cause → e ≡ event_of h cause (emission_in e)
+event_is e h cause agent same = λ j. record { agent = agent j; cause = same j; sends = e.sends; commit = e.commit }
+
+-- the host of an agent that stands for a list is that of the list
+host_is : (agent : AgentRecord) (setup : Configuration) (h : ℕ) (mine : List Event) → StandsFor agent setup h mine → agent.host ≡ h
+host_is agent setup h mine s = ap (λ (x : AgentRecord). x.host) s.kept
+
+-- the same by the result of the step, and by the event in the room
 pub step_stands :
-    (old new : AgentRecord) (cause : Cause) (r : Result Emission HostRefusal) (setup : Configuration) (h : ℕ) (mine : List Event) → StandsFor old setup h mine
-    → r ≡ answered_by old cause → IfOk r (λ w. new ≡ agent_after cause w old) → IfOk r (λ w. StandsFor new setup h (event_of h cause w ∷ mine))
-step_stands old new cause (Ok w) setup h mine s is changed = event_stands old new cause w setup h mine s (sym is) changed
-step_stands old new cause (Err refusal) setup h mine s is changed = tt
+    (old new : AgentRecord) (cause : Cause) (e : Event) (r : Result (Unit {0}) HostRefusal) (setup : Configuration) (h : ℕ) (mine : List Event) → StandsFor old setup h mine
+    → told r e ≡ answered_by old cause → IfOk r (λ u. e ≡ event_of old.host cause (emission_in e)) → IfOk r (λ u. new ≡ agent_after cause (emission_in e) old)
+    → IfOk r (λ u. StandsFor new setup h (e ∷ mine))
+step_stands old new cause e (Ok u) setup h mine s is of changed =
+    subst (λ x. StandsFor new setup h (x ∷ mine)) (sym (of ∙ ap (λ n. event_of n cause (emission_in e)) (host_is old setup h mine s)))
+    (event_stands old new cause (emission_in e) setup h mine s (sym is) changed)
+step_stands old new cause e (Err refusal) setup h mine s is of changed = tt
+
+-- the same by what the event sends and commits
+pub value_stands :
+    (old new : AgentRecord) (cause : Cause) (e : Event) (r : Result (Unit {0}) HostRefusal) (u : Unit {0}) (w : Emission) (setup : Configuration) (h : ℕ) (mine : List Event)
+    → StandsFor old setup h mine → r ≡ Ok u → w ≡ emission_in e → IfOk r (λ x. e.agent ≡ old.host) → IfOk r (λ x. e.cause ≡ cause)
+    → IfOk r (λ x. StandsFor new setup h (e ∷ mine)) → StandsFor new setup h (event_of h cause w ∷ mine)
+value_stands old new cause e (Ok x) u w setup h mine s is same agent cause_is stands =
+    subst (λ y. StandsFor new setup h (event_of h cause y ∷ mine)) (sym same)
+    (subst (λ y. StandsFor new setup h (y ∷ mine)) (event_is e h cause (agent ∙ host_is old setup h mine s) cause_is) stands)
+value_stands old new cause e (Err refusal) u w setup h mine s is same agent cause_is stands = cc
+
+-- ---- what stays
+
+pub setup_stays :
+    (old new : AgentRecord) (cause : Cause) (w : Emission) (r : Result (Unit {0}) HostRefusal) → IfOk r (λ u. new ≡ agent_after cause w old) → OnErr r (new ≡ old)
+    → new.setup ≡ old.setup
+setup_stays old new cause w (Ok u) goes stays = ap (λ (x : AgentRecord). x.setup) goes
+setup_stays old new cause w (Err refusal) goes stays = ap (λ (x : AgentRecord). x.setup) stays
+
+pub host_stays :
+    (old new : AgentRecord) (cause : Cause) (w : Emission) (r : Result (Unit {0}) HostRefusal) → IfOk r (λ u. new ≡ agent_after cause w old) → OnErr r (new ≡ old)
+    → new.host ≡ old.host
+host_stays old new cause w (Ok u) goes stays = ap (λ (x : AgentRecord). x.host) goes
+host_stays old new cause w (Err refusal) goes stays = ap (λ (x : AgentRecord). x.host) stays
 
 -- ---- acts
 

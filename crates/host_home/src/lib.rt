@@ -8,4 +8,8 @@ mod stepping;
 
 pub use agent::HostAgent;
 pub use emissions::Emitted;
+pub use event_room::EventRoom;
 pub use host_rows::HostRefusal;
+
+#[cfg(test)]
+mod tests;

@@ -2,7 +2,6 @@
 use Rattle.std.specs.Prelude.{Bool, Err, List, None, Ok, Option, Result, Some, false, find, if◌then◌else◌, is_some, length, map, nat_le, nat_lt, not, true, option_and_then, option_map, ℕ, ◌&&◌, ◌+◌, ◌-◌, ◌<◌, ◌==◌, ◌||◌, ◌≡◌}
 use Rattle.std.specs.List.{range_with_len}
 use Rattle.cxl_message.specs.declared.events.Op.{Op}
-use Rattle.cxl_message.specs.declared.events.Sends.{Sends}
 use Rattle.cxl_message.specs.declared.identifiers.Line.{Line}
 use Rattle.cxl_message.specs.declared.identifiers.Tag.{Tag}
 use Rattle.cxl_message.specs.declared.messages.Message.{Message}
@@ -109,13 +108,6 @@ planned_emission h s i ways op Plan.Hit = one_commit s i op (line_after op (copy
 planned_emission h s i ways op (Plan.Request tag) = one_send h (request_message op tag.0)
 planned_emission h s i ways op (Plan.Drop victim tag) = one_send h (request_message op tag.0)
 planned_emission h s i ways op (Plan.Replace victim lower tag) = two_sends h (eviction_in ways victim.0 lower.0) (request_message op tag.0)
-
--- what an operation sends by its plan
-abbrev pub planned_sends : ℕ → List Way → Op → Plan → Sends
-planned_sends h ways op Plan.Hit = Sends.Nothing
-planned_sends h ways op (Plan.Request tag) = (one_send h (request_message op tag.0)).sends
-planned_sends h ways op (Plan.Drop victim tag) = (one_send h (request_message op tag.0)).sends
-planned_sends h ways op (Plan.Replace victim lower tag) = (two_sends h (eviction_in ways victim.0 lower.0) (request_message op tag.0)).sends
 
 -- ---- what a plan that was made knows
 

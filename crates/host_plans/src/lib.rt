@@ -4,12 +4,10 @@
 
 ghost use Rattle.host_plans.specs.Answers.{PlansAnswer};
 
-mod messages;
 mod planning;
 mod plans;
 mod tags;
 
-pub use messages::plan_sends;
 pub use planning::plan;
 pub use plans::{Plan, Unplanned};
 

@@ -1,5 +1,5 @@
 use super::*;
-use cxl_message::{Bytes64, CopyState, Line, Op, Sends, Setup, Tag};
+use cxl_message::{Bytes64, CopyState, Line, Op, Setup, Tag};
 use host_cache::{BusyLines, HostCache};
 use line_states::{Open, OpenKind};
 use std::test::Fail;
@@ -41,13 +41,6 @@ fn an_operation_hits_or_takes_a_way_and_the_lowest_tags(rt: HostRuntime) -> Resu
         tag: Tag(1),
     };
     assert!(rt; replaced == Ok(both));
-    match plan_sends(0, &cache, &load, both) {
-        Sends::Two(first, second) => {
-            assert!(rt; first.message.has_tag(Tag(0)));
-            assert!(rt; second.message.has_tag(Tag(1)));
-        }
-        _ => assert!(rt; false),
-    }
     let hit = Op::Word {
         line: Line(0),
         place: 0,

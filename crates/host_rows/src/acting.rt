@@ -1,6 +1,10 @@
-// Rows H7 to H10: what an act sends.
+// Rows H7 to H10: the head of the message that an act sends.
 ghost use Rattle.std.specs.List.{list_all};
-ghost use Rattle.std.specs.Prelude.{◌≡◌};
+ghost use Rattle.std.specs.Prelude.{◌≡◌, is_some, option_map};
+ghost use Rattle.cxl_message.specs.declared.events.Act.{Act as TheAct};
+ghost use Rattle.event_room.specs.Heads.{with_payload};
+ghost use Rattle.host_rows.specs.Rows.{act_emission};
+ghost use Rattle.host_tables.specs.Kept.{IsOwed};
 ghost use Rattle.coherence_model.specs.HostActs.{is_data_snoop as asks_for_data, write_back_meta as meta_of_write_back};
 ghost use Rattle.cxl_message.specs.Codes.{span_len};
 ghost use Rattle.std.specs.Prelude.{◌==◌, ◌&&◌, ◌||◌, Some, not, true};
@@ -10,14 +14,17 @@ ghost use Rattle.host_record.specs.Ways.{copy_in};
 ghost use Rattle.host_record.specs.HostRecord.{view_in};
 ghost use Rattle.host_record.specs.ViewRows.{acts_by, answer_block_by, answer_by, block_at, block_by, conflict_by, in_block_by, is_ready_by, response_by, return_by, snoop_of_line, write_back_by};
 
-use cxl_message::{Act, Channel, Line, Message, Meta, RspOp, SnpOp, SnpType, Span};
-use emissions::Emitted;
+use cxl_message::{Act, Channel, Line, Meta, RspOp, SnpOp, SnpType, Span};
+use event_room::MessageHead;
 use held_snoops::HeldSnoop;
 use host_tables::HostTables;
 
-/// What an act sends, or None where its row doesn't hold, credits aside. The acts of the device are none of a host's.
-pub fn emitted_by_act(agent: &HostTables, act: &Act) -> Option<Emitted>
-    ensures { result ≡ acts_by agent.now.setup agent.now.host act.now (view_in agent.now.kept) }
+/// The head of the message that an act sends, or None where its row doesn't hold, credits aside: the act's decision, made once.
+/// A write-back's payload is the bytes of its line's copy. The acts of the device are none of a host's.
+#[tactic(auto, using(crate::proofs::Passing::owed_some))]
+pub fn act_row(agent: &HostTables, act: &Act) -> Option<MessageHead>
+    ensures row { option_map (act_emission agent.now.host act.now agent.now.kept) result ≡ acts_by agent.now.setup agent.now.host act.now (view_in agent.now.kept) }
+    ensures owed { is_some result ≡ true → IsOwed act.now agent.now.kept }
 {
     match act {
         Act::Conflict(line) => declares(agent, *line),
@@ -36,14 +43,14 @@ pub fn emitted_by_act(agent: &HostTables, act: &Act) -> Option<Emitted>
 }
 
 /// H7: the conflict of a snooped line, with the Tag of what is open for it.
-fn declares(agent: &HostTables, line: Line) -> Option<Emitted>
-    ensures { result ≡ conflict_by agent.now.host line.0 (view_in agent.now.kept) ((view_in agent.now.kept).open_at line.0) }
+fn declares(agent: &HostTables, line: Line) -> Option<MessageHead>
+    ensures { option_map (act_emission agent.now.host (TheAct.Conflict line) agent.now.kept) result ≡ conflict_by agent.now.host line.0 (view_in agent.now.kept) ((view_in agent.now.kept).open_at line.0) }
 {
     match agent.open_at(line) {
         None => None,
         Some(open) => {
             if agent.is_snooped(line) && agent.stage(line).is_new() && open.kind.may_conflict() {
-                Some(Emitted::one_send(agent.host(), Message::BiConflict { tag: open.tag }))
+                Some(MessageHead::BiConflict { tag: open.tag })
             } else {
                 None
             }
@@ -52,8 +59,8 @@ fn declares(agent: &HostTables, line: Line) -> Option<Emitted>
 }
 
 /// H8: the write-back of a snooped line, by its snoop.
-fn writes_back(agent: &HostTables, line: Line) -> Option<Emitted>
-    ensures { result ≡ write_back_by agent.now.setup agent.now.host line.0 (view_in agent.now.kept) (snoop_of_line (view_in agent.now.kept).snoops line.0) }
+fn writes_back(agent: &HostTables, line: Line) -> Option<MessageHead>
+    ensures { option_map (act_emission agent.now.host (TheAct.WriteBack line) agent.now.kept) result ≡ write_back_by agent.now.setup agent.now.host line.0 (view_in agent.now.kept) (snoop_of_line (view_in agent.now.kept).snoops line.0) }
 {
     match agent.snoop_of(line) {
         None => None,
@@ -63,7 +70,7 @@ fn writes_back(agent: &HostTables, line: Line) -> Option<Emitted>
                 && agent.is_dirty(line)
                 && !agent.is_writing()
             {
-                Some(Emitted::one_send(agent.host(), write_back(agent, line, snoop.op())))
+                Some(write_back(agent, line, snoop.op()))
             } else {
                 None
             }
@@ -72,21 +79,20 @@ fn writes_back(agent: &HostTables, line: Line) -> Option<Emitted>
 }
 
 /// The message of a write-back, with the write-back Tag.
-fn write_back(agent: &HostTables, line: Line, op: SnpOp) -> Message
-    ensures { result ≡ write_back_of agent.now.setup op line (copy_in agent.now.kept.ways line.0) }
+fn write_back(agent: &HostTables, line: Line, op: SnpOp) -> MessageHead
+    ensures { with_payload result (copy_in agent.now.kept.ways line.0).bytes ≡ write_back_of agent.now.setup op line (copy_in agent.now.kept.ways line.0) }
 {
-    Message::MemWr {
+    MessageHead::MemWr {
         meta: write_back_meta(op),
         snp: SnpType::NoOp,
         tag: agent.write_back_tag(),
         line,
-        bytes: agent.bytes_of(line),
     }
 }
 
 /// H9: the answer for a snooped line, by its snoop.
-fn answers(agent: &HostTables, line: Line) -> Option<Emitted>
-    ensures { result ≡ answer_by agent.now.host line.0 (view_in agent.now.kept) (snoop_of_line (view_in agent.now.kept).snoops line.0) }
+fn answers(agent: &HostTables, line: Line) -> Option<MessageHead>
+    ensures { option_map (act_emission agent.now.host (TheAct.Answer line) agent.now.kept) result ≡ answer_by agent.now.host line.0 (view_in agent.now.kept) (snoop_of_line (view_in agent.now.kept).snoops line.0) }
 {
     match agent.snoop_of(line) {
         Some(snoop) => answers_for(agent, snoop, line),
@@ -95,12 +101,12 @@ fn answers(agent: &HostTables, line: Line) -> Option<Emitted>
 }
 
 /// H9: the answer for a line of a snoop.
-fn answers_for(agent: &HostTables, snoop: &HeldSnoop, line: Line) -> Option<Emitted>
+fn answers_for(agent: &HostTables, snoop: &HeldSnoop, line: Line) -> Option<MessageHead>
     requires { is_in line.0 snoop.now.unanswered ≡ true }
-    ensures { result ≡ answer_by agent.now.host line.0 (view_in agent.now.kept) (Some snoop.now) }
+    ensures { option_map (act_emission agent.now.host (TheAct.Answer line) agent.now.kept) result ≡ answer_by agent.now.host line.0 (view_in agent.now.kept) (Some snoop.now) }
 {
     if is_answered_alone(agent, snoop, line) {
-        Some(Emitted::one_send(agent.host(), answer_for(agent, snoop, line)))
+        Some(answer_for(agent, snoop, line))
     } else {
         None
     }
@@ -114,11 +120,11 @@ fn is_answered_alone(agent: &HostTables, snoop: &HeldSnoop, line: Line) -> bool
 }
 
 /// The message of an answer for a line of a snoop.
-fn answer_for(agent: &HostTables, snoop: &HeldSnoop, line: Line) -> Message
+fn answer_for(agent: &HostTables, snoop: &HeldSnoop, line: Line) -> MessageHead
     requires { is_in line.0 snoop.now.unanswered ≡ true }
-    ensures { result ≡ answer_of (response_by snoop.now.op line.0 (view_in agent.now.kept)) snoop.now.first line.0 }
+    ensures { with_payload result (copy_in agent.now.kept.ways line.0).bytes ≡ answer_of (response_by snoop.now.op line.0 (view_in agent.now.kept)) snoop.now.first line.0 }
 {
-    Message::BiRsp {
+    MessageHead::BiRsp {
         op: response(agent, snoop.op(), line),
         bitag: snoop.bitag(),
         low: snoop.low(line),
@@ -173,18 +179,17 @@ fn response(agent: &HostTables, op: SnpOp, line: Line) -> RspOp
 }
 
 /// H9: the answer for a whole block.
-fn answers_block(agent: &HostTables, first: Line) -> Option<Emitted>
-    ensures { result ≡ answer_block_by agent.now.host first.0 (view_in agent.now.kept) }
+fn answers_block(agent: &HostTables, first: Line) -> Option<MessageHead>
+    ensures { option_map (act_emission agent.now.host (TheAct.AnswerBlock first) agent.now.kept) result ≡ answer_block_by agent.now.host first.0 (view_in agent.now.kept) }
 {
     match agent.whole_block(first) {
         Some(snoop) => {
             if may_answer_all(agent, snoop) {
-                let message = Message::BiRsp {
+                Some(MessageHead::BiRsp {
                     op: RspOp::IBlk,
                     bitag: snoop.bitag(),
                     low: 0,
-                };
-                Some(Emitted::one_send(agent.host(), message))
+                })
             } else {
                 None
             }
@@ -193,12 +198,12 @@ fn answers_block(agent: &HostTables, first: Line) -> Option<Emitted>
     }
 }
 
-/// H10: a Credit is given back.
-fn returns(agent: &HostTables, channel: Channel) -> Option<Emitted>
-    ensures { result ≡ return_by agent.now.host channel (view_in agent.now.kept) }
+/// H10: a Credit is given back, where one is owed.
+fn returns(agent: &HostTables, channel: Channel) -> Option<MessageHead>
+    ensures { option_map (act_emission agent.now.host (TheAct.HostReturn channel) agent.now.kept) result ≡ return_by agent.now.host channel (view_in agent.now.kept) }
 {
     if agent.owed(channel) >= 1 {
-        Some(Emitted::one_send(agent.host(), Message::Credit { channel }))
+        Some(MessageHead::Credit { channel })
     } else {
         None
     }

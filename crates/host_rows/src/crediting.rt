@@ -1,34 +1,54 @@
 // Whether the credits reach for what a host sends.
 ghost use Rattle.std.specs.Prelude.{◌≡◌};
-ghost use Rattle.coherence_model.specs.Credits.{credits_needed as credits_that_are_needed};
 ghost use Rattle.host_record.specs.HostRecord.{view_in};
-ghost use Rattle.host_record.specs.ViewAnswers.{lacking_by, short_of as short_of_credits};
+ghost use Rattle.host_record.specs.ViewRows.{is_dirty};
+ghost use Rattle.host_record.specs.Ways.{copy_in};
+ghost use Rattle.host_rows.specs.Rows.{head_channel, short_of_plan as short_of_planned, short_of_two as short_of_both, short_on as short_of_credits};
 
-use cxl_message::{Channel, Out, Sends};
+use cxl_message::Channel;
+use event_room::MessageHead;
+use host_plans::Plan;
 use host_tables::HostTables;
 
-/// The first channel, in the order of the messages, whose credits don't reach (CXL 3.1, chapter 3: a message that is sent costs a
-/// credit of its channel).
-pub fn lacking(agent: &HostTables, sends: &Sends) -> Option<Channel>
-    ensures { result ≡ lacking_by (view_in agent.now.kept) sends.now }
+/// The channel of a message, where none of its credits is left (CXL 3.1, chapter 3: a message that is sent costs a credit of
+/// its channel).
+pub fn lacking(agent: &HostTables, head: MessageHead) -> Option<Channel>
+    ensures { result ≡ short_of_credits (view_in agent.now.kept) 1 (head_channel head) }
 {
-    match sends {
-        Sends::Nothing => None,
-        Sends::One(out) => short_of(agent, 1, out),
-        Sends::Two(first, second) => {
-            match short_of(agent, credits_needed(first, second), first) {
-                Some(channel) => Some(channel),
-                None => short_of(agent, 1, second),
-            }
-        }
+    short_on(agent, 1, channel_of(head))
+}
+
+/// The first channel, in the order of the messages, whose credits don't reach for what a plan sends.
+pub(crate) fn short_of_plan(agent: &HostTables, plan: Plan) -> Option<Channel>
+    ensures { result ≡ short_of_planned (view_in agent.now.kept) (λ a. is_dirty (copy_in agent.now.kept.ways a)) plan }
+{
+    match plan {
+        Plan::Hit => None,
+        Plan::Request { .. } => short_on(agent, 1, Channel::Req),
+        Plan::Drop { .. } => short_on(agent, 1, Channel::Req),
+        Plan::Replace { victim, .. } => short_of_two(agent, agent.is_dirty(victim)),
     }
 }
 
-/// The channel of a sent message, where fewer than so many of its credits are left.
-fn short_of(agent: &HostTables, needed: u8, out: &Out) -> Option<Channel>
-    ensures { result ≡ short_of_credits (view_in agent.now.kept) needed out.now }
+/// The same for an eviction and a request: that of a modified copy is a MemWr, and else both go on one channel.
+fn short_of_two(agent: &HostTables, dirty: bool) -> Option<Channel>
+    ensures { result ≡ short_of_both (view_in agent.now.kept) dirty }
 {
-    let channel = out.message.channel();
+    let evicting = if dirty {
+        short_on(agent, 1, Channel::Rwd)
+    } else {
+        short_on(agent, 2, Channel::Req)
+    };
+    match evicting {
+        Some(channel) => Some(channel),
+        None => short_on(agent, 1, Channel::Req),
+    }
+}
+
+/// A channel, where fewer than so many of its credits are left.
+fn short_on(agent: &HostTables, needed: u8, channel: Channel) -> Option<Channel>
+    ensures { result ≡ short_of_credits (view_in agent.now.kept) needed channel }
+{
     if channel.has_credits() && agent.left(channel) < needed {
         Some(channel)
     } else {
@@ -36,13 +56,21 @@ fn short_of(agent: &HostTables, needed: u8, out: &Out) -> Option<Channel>
     }
 }
 
-/// How many credits the first of two messages needs on its channel: two where the other goes there too.
-fn credits_needed(first: &Out, second: &Out) -> u8
-    ensures { result ≡ credits_that_are_needed first.now second.now }
+/// The channel of a message.
+fn channel_of(head: MessageHead) -> Channel
+    ensures { result ≡ head_channel head }
 {
-    if first.host == second.host && first.message.channel() == second.message.channel() {
-        2
-    } else {
-        1
+    match head {
+        MessageHead::Req { .. } => Channel::Req,
+        MessageHead::MemWr { .. } => Channel::Rwd,
+        MessageHead::BiConflict { .. } => Channel::Rwd,
+        MessageHead::BiRsp { .. } => Channel::BiRsp,
+        MessageHead::Ndr { .. } => Channel::Ndr,
+        MessageHead::MemData { .. } => Channel::Drs,
+        MessageHead::BiSnp { .. } => Channel::BiSnp,
+        MessageHead::Credit { channel } => match channel {
+            Channel::Req | Channel::Rwd | Channel::BiRsp => Channel::CreditDown,
+            _ => Channel::CreditUp,
+        },
     }
 }

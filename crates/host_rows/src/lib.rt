@@ -7,18 +7,19 @@
 mod acting;
 mod answers;
 mod crediting;
+mod emitting;
 mod judging;
 mod operating;
 mod rules;
 mod stepping;
 mod taking;
 
-pub use acting::emitted_by_act;
+pub use acting::act_row;
 pub use answers::HostRefusal;
 pub use crediting::lacking;
-pub use judging::{answer_act, answer_take};
 pub use operating::{answer_operation, step_operation};
-pub use stepping::{step_act, step_take};
+pub use stepping::{answer_act, answer_take, step_act, step_take};
+pub use taking::{TakeRow, take_row};
 
 #[cfg(test)]
 mod tests;

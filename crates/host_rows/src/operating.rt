@@ -1,51 +1,98 @@
-// Rows H1 and H2: what an operation sends and commits by its plan, and the order in which it is refused.
-ghost use Rattle.std.specs.Prelude.{◌≡◌, IfOk, IsTrue, Ok, OnErr, Some};
-ghost use Rattle.cxl_message.specs.Formed.{place_exists};
+// Rows H1 and H2: the order in which an operation is refused, and the event of one that goes by its plan.
+ghost use Rattle.std.specs.Prelude.{◌≡◌, IfOk, None, OnErr, true};
 ghost use Rattle.cxl_message.specs.declared.events.Cause.{Cause as TheCause};
+ghost use Rattle.coherence_model.specs.Refusals.{cause_passes as passes_profile};
 ghost use Rattle.host_plans.specs.Plans.{PlanHolds, planned_emission};
 ghost use Rattle.host_record.specs.HostRecord.{view_in};
-ghost use Rattle.host_record.specs.ViewAnswers.{in_order, operation_answer_by, operation_or};
-ghost use Rattle.host_rows.specs.Answers.{as_result, refused_as};
-ghost use Rattle.host_tables.specs.Agent.{agent_after};
+ghost use Rattle.host_record.specs.ViewAnswers.{in_order, operation_answer_by};
+ghost use Rattle.host_record.specs.ViewRows.{is_dirty};
+ghost use Rattle.host_record.specs.Ways.{copy_in};
+ghost use Rattle.host_rows.specs.Answers.{as_result, emission_in, refused_as, told};
+ghost use Rattle.host_rows.specs.Rows.{decided, refusal_of_plan, short_of_plan as short_of_planned};
+ghost use Rattle.host_tables.specs.Agent.{agent_after, event_of};
 ghost use Rattle.host_tables.specs.Operating.{GoesOn};
 
 use crate::answers::HostRefusal;
-use crate::crediting::lacking;
-use cxl_message::{Cause, Commit, Op, RuleNo};
-use emissions::Emitted;
+use crate::crediting::short_of_plan;
+use crate::emitting::emit_operation;
+use cxl_message::{Cause, Op, RuleNo};
+use event_room::EventRoom;
 use host_plans::{Plan, Unplanned};
 use host_tables::HostTables;
 use profile_rules::cause_passes;
 
-/// The answer of a host to an operation: NoSuchLine, Again, NoTag, NoWay, NoCredit, Broken(P0), Broken(S0), or what it sends and
-/// commits.
+/// Writes the event of an operation into a room, and gives its plan; or its first refusal, which leaves the room as it was: NoSuchLine,
+/// Again, NoTag, NoWay, NoCredit, Broken(P0), Broken(S0).
+#[tactic(auto, using(crate::proofs::Planned::goes_as))]
 pub fn answer_operation(
     agent: &HostTables,
+    cause: &Cause,
     stream: u8,
     index: u32,
     op: &Op,
-) -> Result<Emitted, HostRefusal>
-    ensures { result ≡ as_result (operation_answer_by agent.now.setup agent.now.host stream index op.now (view_in agent.now.kept)) }
+    room: &mut EventRoom,
+) -> Result<Plan, HostRefusal>
+    requires { cause.now ≡ TheCause.Op stream index op.now }
+    ensures holds { IfOk result (λ plan. PlanHolds agent.now.setup.ways agent.now.setup.lines agent.now.kept.ways agent.now.kept.busy op.now plan) }
+    ensures goes_on { IfOk result (λ plan. GoesOn agent.now.host stream index agent.now.kept op.now plan (emission_in room.new)) }
+    ensures answer { told result room.new ≡ as_result (operation_answer_by agent.now.setup agent.now.host stream index op.now (view_in agent.now.kept)) }
+    ensures event { IfOk result (λ plan. room.new ≡ event_of agent.now.host (TheCause.Op stream index op.now) (emission_in room.new)) }
+    ensures refused { OnErr result (room.new ≡ room.old) }
 {
-    match agent.plan(op) {
-        Ok(plan) => answer_plan(agent, plan, stream, index, op),
-        Err(unplanned) => Err(refusal_of(unplanned)),
+    match decide_operation(agent, cause, stream, index, op) {
+        Ok(plan) => {
+            emit_operation(agent, plan, stream, index, op, room);
+            Ok(plan)
+        }
+        Err(refusal) => Err(refusal),
     }
 }
 
 /// Makes the event of an operation where it is allowed; else it is refused as by `answer_operation`, and nothing changes.
+#[tactic(auto, using(crate::proofs::Planned::goes_as))]
 pub fn step_operation(
     agent: &mut HostTables,
+    cause: &Cause,
     stream: u8,
     index: u32,
     op: &Op,
-) -> Result<Emitted, HostRefusal>
-    ensures answer { result ≡ as_result (operation_answer_by agent.old.setup agent.old.host stream index op.now (view_in agent.old.kept)) }
-    ensures changed { IfOk result (λ w. agent.new ≡ agent_after (TheCause.Op stream index op.now) w agent.old) }
+    room: &mut EventRoom,
+) -> Result<(), HostRefusal>
+    requires { cause.now ≡ TheCause.Op stream index op.now }
+    ensures answer { told result room.new ≡ as_result (operation_answer_by agent.old.setup agent.old.host stream index op.now (view_in agent.old.kept)) }
+    ensures event { IfOk result (λ u. room.new ≡ event_of agent.old.host (TheCause.Op stream index op.now) (emission_in room.new)) }
+    ensures changed { IfOk result (λ u. agent.new ≡ agent_after (TheCause.Op stream index op.now) (emission_in room.new) agent.old) }
     ensures refused { OnErr result (agent.new ≡ agent.old) }
+    ensures room { OnErr result (room.new ≡ room.old) }
+{
+    match answer_operation(agent, cause, stream, index, op, room) {
+        Ok(plan) => {
+            agent.operate(plan, stream, index, op, room.sends(), room.commit());
+            Ok(())
+        }
+        Err(refusal) => Err(refusal),
+    }
+}
+
+/// The plan of an operation, made once, or its first refusal.
+#[tactic(auto, using(crate::proofs::Planned::plan_goes, crate::proofs::Planned::plan_stays, crate::proofs::Planned::without_plan, crate::proofs::Planned::goes_so))]
+fn decide_operation(
+    agent: &HostTables,
+    cause: &Cause,
+    stream: u8,
+    index: u32,
+    op: &Op,
+) -> Result<Plan, HostRefusal>
+    requires { cause.now ≡ TheCause.Op stream index op.now }
+    ensures holds { IfOk result (λ plan. PlanHolds agent.now.setup.ways agent.now.setup.lines agent.now.kept.ways agent.now.kept.busy op.now plan) }
+    ensures goes_on { IfOk result (λ plan. GoesOn agent.now.host stream index agent.now.kept op.now plan (planned_emission agent.now.host stream index agent.now.kept.ways op.now plan)) }
+    ensures answer { decided (planned_emission agent.now.host stream index agent.now.kept.ways op.now) result ≡ as_result (operation_answer_by agent.now.setup agent.now.host stream index op.now (view_in agent.now.kept)) }
 {
     match agent.plan(op) {
-        Ok(plan) => step_plan(agent, plan, stream, index, op),
+        Ok(plan) => match keeps_back(agent, plan, cause, stream, index) {
+            None => Ok(plan),
+            Some(refusal) => Err(refusal),
+        },
         Err(unplanned) => Err(refusal_of(unplanned)),
     }
 }
@@ -62,75 +109,28 @@ fn refusal_of(unplanned: Unplanned) -> HostRefusal
     }
 }
 
-/// The answer to an operation with a plan: NoCredit, Broken(P0), Broken(S0), or what it sends and commits.
-#[tactic(auto, using(crate::proofs::Planned::short_so, crate::proofs::Planned::enough_so, crate::proofs::Planned::emits_so))]
-fn answer_plan(
+/// Why an operation with a plan is refused, if it is: NoCredit, Broken(P0), Broken(S0).
+fn keeps_back(
     agent: &HostTables,
     plan: Plan,
+    cause: &Cause,
     stream: u8,
     index: u32,
-    op: &Op,
-) -> Result<Emitted, HostRefusal>
-    ensures answer { result ≡ as_result (operation_or agent.now.setup agent.now.host stream index op.now (view_in agent.now.kept) (Some (planned_emission agent.now.host stream index agent.now.kept.ways op.now plan))) }
-    ensures goes_on { IfOk result (λ w. GoesOn agent.now.host stream index agent.now.kept op.now plan w) }
+) -> Option<HostRefusal>
+    ensures refusal { result ≡ refusal_of_plan (short_of_planned (view_in agent.now.kept) (λ a. is_dirty (copy_in agent.now.kept.ways a)) plan) (passes_profile agent.now.setup agent.now.host cause.now) (in_order stream index (view_in agent.now.kept)) }
+    ensures passes { result ≡ None → passes_profile agent.now.setup agent.now.host cause.now ≡ true }
+    ensures next { result ≡ None → in_order stream index (view_in agent.now.kept) ≡ true }
 {
-    let sends = agent.sends_of(op, plan);
-    if let Some(channel) = lacking(agent, &sends) {
-        return Err(HostRefusal::NoCredit(channel));
+    if let Some(channel) = short_of_plan(agent, plan) {
+        return Some(HostRefusal::NoCredit(channel));
     }
-    let cause = Cause::Op {
-        stream,
-        index,
-        op: *op,
-    };
-    if !cause_passes(agent.setup(), agent.host(), &cause) {
-        return Err(HostRefusal::Broken(RuleNo::P0));
+    if !cause_passes(agent.setup(), agent.host(), cause) {
+        return Some(HostRefusal::Broken(RuleNo::P0));
     }
     if !is_next(agent, stream, index) {
-        return Err(HostRefusal::Broken(RuleNo::S0));
+        return Some(HostRefusal::Broken(RuleNo::S0));
     }
-    let commit = commits(agent, plan, stream, index, op);
-    Ok(Emitted { sends, commit })
-}
-
-/// Makes the event of an operation with a plan where it is allowed; else it is refused, and nothing changes.
-fn step_plan(
-    agent: &mut HostTables,
-    plan: Plan,
-    stream: u8,
-    index: u32,
-    op: &Op,
-) -> Result<Emitted, HostRefusal>
-    requires holds { PlanHolds agent.old.setup.ways agent.old.setup.lines agent.old.kept.ways agent.old.kept.busy op.now plan }
-    ensures answer { result ≡ as_result (operation_or agent.old.setup agent.old.host stream index op.now (view_in agent.old.kept) (Some (planned_emission agent.old.host stream index agent.old.kept.ways op.now plan))) }
-    ensures changed { IfOk result (λ w. agent.new ≡ agent_after (TheCause.Op stream index op.now) w agent.old) }
-    ensures refused { OnErr result (agent.new ≡ agent.old) }
-{
-    match answer_plan(agent, plan, stream, index, op) {
-        Ok(emitted) => {
-            agent.operate(plan, stream, index, op, &emitted.sends, &emitted.commit);
-            Ok(emitted)
-        }
-        Err(refusal) => Err(refusal),
-    }
-}
-
-/// What an operation with a plan commits: a hit its line's bytes after it.
-fn commits(agent: &HostTables, plan: Plan, stream: u8, index: u32, op: &Op) -> Option<Commit>
-    requires { IsTrue (place_exists op.now) }
-    ensures { result ≡ (planned_emission agent.now.host stream index agent.now.kept.ways op.now plan).commit }
-{
-    match plan {
-        Plan::Hit => Some(Commit {
-            stream,
-            index,
-            op: *op,
-            value: op.line_after(&agent.bytes_of(op.line())),
-        }),
-        Plan::Request { .. } => None,
-        Plan::Drop { .. } => None,
-        Plan::Replace { .. } => None,
-    }
+    None
 }
 
 /// Whether an index is the next of its stream, and the stream doesn't wait.

@@ -3,49 +3,53 @@ ghost use Rattle.std.specs.Prelude.{◌≡◌, ◌+◌, ◌-◌, ◌<◌, ◌≤
 ghost use Rattle.coherence_model.specs.Copies.{keeps_shared as message_keeps_shared, shared};
 ghost use Rattle.coherence_model.specs.Snoops.{snoops_after_answer};
 ghost use Rattle.coherence_model.specs.Stages.{Stage};
+ghost use Rattle.event_room.specs.Parts.{message_of, sends_of};
 ghost use Rattle.host_record.specs.HostChanges.{acted, answered_block, answered_line, block_lines, conflicted, pay, pay_all, repay, respond, wants_way, wrote_back};
-ghost use Rattle.host_tables.specs.Kept.{line_dropped, lines_dropped};
+ghost use Rattle.host_record.specs.HostRecord.{view_in};
+ghost use Rattle.host_record.specs.View.{owed_of};
+ghost use Rattle.host_tables.specs.Kept.{IsOwed, line_dropped, lines_dropped};
 ghost use Rattle.host_record.specs.Tables.{lookup};
 ghost use Rattle.host_record.specs.Ways.{copy_in, give_up, put_way};
 
 use crate::host::HostTables;
 use crate::tables::set;
 use arrayvec::ArrayVec;
-use cxl_message::{Act, Channel, CopyState, Line, Message, Meta, RspOp, Sends, Tag};
+use cxl_message::{Act, Channel, CopyState, Line, Meta, RspOp, Tag};
+use event_room::{MessageHead, MessageRef, SendsRef};
 use line_states::{LineStage, StageKind};
 
 impl HostTables {
     /// One credit is spent for a message.
-    pub(crate) fn pay(&mut self, message: &Message)
-        ensures { self.new ≡ record self.old { kept = pay message.now self.old.kept } }
+    pub(crate) fn pay(&mut self, message: MessageRef<'_>)
+        ensures { self.new ≡ record self.old { kept = pay (message_of message.entry) self.old.kept } }
     {
-        match message {
-            Message::Req { .. } => {
+        match message.head {
+            MessageHead::Req { .. } => {
                 let _paid = self.req.spend();
             }
-            Message::MemWr { .. } | Message::BiConflict { .. } => {
+            MessageHead::MemWr { .. } | MessageHead::BiConflict { .. } => {
                 let _paid = self.rwd.spend();
             }
-            Message::BiRsp { .. } => {
+            MessageHead::BiRsp { .. } => {
                 let _paid = self.bi_rsp.spend();
             }
-            Message::Ndr { .. }
-            | Message::MemData { .. }
-            | Message::BiSnp { .. }
-            | Message::Credit { .. } => {}
+            MessageHead::Ndr { .. }
+            | MessageHead::MemData { .. }
+            | MessageHead::BiSnp { .. }
+            | MessageHead::Credit { .. } => {}
         }
     }
 
     /// The credits for what is sent are spent.
-    pub(crate) fn pay_all(&mut self, sends: &Sends)
-        ensures { self.new ≡ record self.old { kept = pay_all sends.now self.old.kept } }
+    pub(crate) fn pay_all(&mut self, sends: SendsRef<'_>)
+        ensures { self.new ≡ record self.old { kept = pay_all (sends_of sends.entry) self.old.kept } }
     {
         match sends {
-            Sends::Nothing => {}
-            Sends::One(out) => self.pay(&out.message),
-            Sends::Two(first, second) => {
-                self.pay(&first.message);
-                self.pay(&second.message);
+            SendsRef::Nothing => {}
+            SendsRef::One(out) => self.pay(out.message),
+            SendsRef::Two(first, second) => {
+                self.pay(first.message);
+                self.pay(second.message);
             }
         }
     }
@@ -97,13 +101,13 @@ impl HostTables {
     }
 
     /// The copy after a write-back or an answer for a line: a shared one stays where the message says so.
-    fn respond(&mut self, line: Line, sends: &Sends)
-        ensures { self.new ≡ record self.old { kept = record self.old.kept { ways = respond line.0 sends.now self.old.kept } } }
+    fn respond(&mut self, line: Line, sends: SendsRef<'_>)
+        ensures { self.new ≡ record self.old { kept = record self.old.kept { ways = respond line.0 (sends_of sends.entry) self.old.kept } } }
     {
-        let Sends::One(out) = sends else {
+        let SendsRef::One(out) = sends else {
             return;
         };
-        if keeps_shared(&out.message) {
+        if keeps_shared(out.message) {
             self.keep_shared(line);
         } else {
             let wanted = self.wants_way(line);
@@ -112,8 +116,8 @@ impl HostTables {
     }
 
     /// H8: a write-back of a line was sent.
-    fn write(&mut self, line: Line, sends: &Sends)
-        ensures { self.new ≡ record self.old { kept = wrote_back line.0 sends.now self.old.kept } }
+    fn write(&mut self, line: Line, sends: SendsRef<'_>)
+        ensures { self.new ≡ record self.old { kept = wrote_back line.0 (sends_of sends.entry) self.old.kept } }
     {
         self.respond(line, sends);
         let writing = LineStage {
@@ -124,8 +128,8 @@ impl HostTables {
     }
 
     /// H9: a line was answered.
-    fn answer(&mut self, line: Line, sends: &Sends)
-        ensures { self.new ≡ record self.old { kept = answered_line line.0 sends.now self.old.kept } }
+    fn answer(&mut self, line: Line, sends: SendsRef<'_>)
+        ensures { self.new ≡ record self.old { kept = answered_line line.0 (sends_of sends.entry) self.old.kept } }
     {
         self.respond(line, sends);
         let open = self.tag_at(line).is_some();
@@ -174,9 +178,10 @@ impl HostTables {
         self.bi_snp_owed += (before - self.held.len()) as u8;
     }
 
-    /// What an act changes, by what it sent.
-    pub fn act(&mut self, act: &Act, sends: &Sends)
-        ensures { self.new ≡ record self.old { kept = acted act.now sends.now self.old.kept } }
+    /// What an act changes, by what it sent. A Credit is given back where one is owed.
+    pub fn act(&mut self, act: &Act, sends: SendsRef<'_>)
+        requires { IsOwed act.now self.old.kept }
+        ensures { self.new ≡ record self.old { kept = acted act.now (sends_of sends.entry) self.old.kept } }
     {
         match act {
             Act::Conflict(line) => {
@@ -206,14 +211,15 @@ impl HostTables {
         }
     }
 
-    /// H10: a Credit was given back.
+    /// H10: a Credit was given back, where one was owed.
     fn repay(&mut self, channel: Channel)
+        requires { 1 ≤ owed_of (view_in self.old.kept) channel }
         ensures { self.new ≡ record self.old { kept = repay channel self.old.kept } }
     {
         match channel {
-            Channel::Ndr => self.ndr_owed = self.ndr_owed.saturating_sub(1),
-            Channel::Drs => self.drs_owed = self.drs_owed.saturating_sub(1),
-            Channel::BiSnp => self.bi_snp_owed = self.bi_snp_owed.saturating_sub(1),
+            Channel::Ndr => self.ndr_owed -= 1,
+            Channel::Drs => self.drs_owed -= 1,
+            Channel::BiSnp => self.bi_snp_owed -= 1,
             Channel::Req | Channel::Rwd | Channel::BiRsp => {}
             Channel::CreditUp | Channel::CreditDown => {}
         }
@@ -221,23 +227,23 @@ impl HostTables {
 }
 
 /// Whether a host keeps a shared copy beside a message: MemWr Shared and BIRspS say so.
-fn keeps_shared(message: &Message) -> bool
-    ensures { result ≡ message_keeps_shared message.now }
+fn keeps_shared(message: MessageRef<'_>) -> bool
+    ensures { result ≡ message_keeps_shared (message_of message.entry) }
 {
-    match message {
-        Message::MemWr { meta, .. } => match meta {
+    match message.head {
+        MessageHead::MemWr { meta, .. } => match meta {
             Meta::Shared => true,
             Meta::Invalid | Meta::Any => false,
         },
-        Message::BiRsp { op, .. } => match op {
+        MessageHead::BiRsp { op, .. } => match op {
             RspOp::S => true,
             _ => false,
         },
-        Message::Req { .. } => false,
-        Message::BiConflict { .. } => false,
-        Message::Ndr { .. } => false,
-        Message::MemData { .. } => false,
-        Message::BiSnp { .. } => false,
-        Message::Credit { .. } => false,
+        MessageHead::Req { .. } => false,
+        MessageHead::BiConflict { .. } => false,
+        MessageHead::Ndr { .. } => false,
+        MessageHead::MemData { .. } => false,
+        MessageHead::BiSnp { .. } => false,
+        MessageHead::Credit { .. } => false,
     }
 }

@@ -1,6 +1,6 @@
 // What the rows read of what a host keeps.
 ghost use Rattle.std.specs.List.{list_all};
-ghost use Rattle.std.specs.Prelude.{◌≡◌, ◌==◌, ◌&&◌, ◌||◌, ◌+◌, ◌≤◌, false, is_some, length, nat_le, not};
+ghost use Rattle.std.specs.Prelude.{◌≡◌, ◌==◌, ◌&&◌, ◌||◌, ◌+◌, ◌≤◌, false, is_some, length, nat_le, not, option_map};
 ghost use Rattle.coherence_model.specs.Cache.{is_valid};
 ghost use Rattle.coherence_model.specs.Stages.{Stage};
 ghost use Rattle.host_record.specs.HostRecord.{open_in, view_in};
@@ -13,13 +13,13 @@ use crate::host::{HostTables, TagNumber};
 use cxl_message::{Bytes64, Channel, CopyState, Line, Tag};
 use line_states::{LineStage, Open};
 
-/// What is open with a Tag.
-fn open_in_table(opened: &[Option<Open>], tag: usize) -> Option<Open>
-    ensures { result ≡ lookup opened.now tag }
+/// What is open with a Tag, where it stands.
+fn open_in_table(opened: &[Option<Open>], tag: usize) -> Option<&Open>
+    ensures { option_map (λ o. o.now) result ≡ lookup opened.now tag }
 {
     match opened.get(tag) {
-        Some(open) => *open,
-        None => None,
+        Some(Some(open)) => Some(open),
+        Some(None) | None => None,
     }
 }
 
@@ -55,8 +55,8 @@ fn flag_in_table(flags: &[bool], place: usize) -> bool
 
 impl HostTables {
     /// What is open with a Tag.
-    pub fn open_with(&self, tag: Tag) -> Option<Open>
-        ensures { result ≡ lookup self.now.kept.opened tag.0 }
+    pub fn open_with(&self, tag: Tag) -> Option<&Open>
+        ensures { option_map (λ o. o.now) result ≡ lookup self.now.kept.opened tag.0 }
     {
         open_in_table(&self.opened, tag.0 as usize)
     }
@@ -69,8 +69,8 @@ impl HostTables {
     }
 
     /// What is open for a line.
-    pub fn open_at(&self, line: Line) -> Option<Open>
-        ensures { result ≡ open_in self.now.kept line.0 }
+    pub fn open_at(&self, line: Line) -> Option<&Open>
+        ensures { option_map (λ o. o.now) result ≡ open_in self.now.kept line.0 }
     {
         match self.tag_at(line) {
             Some(tag) => open_in_table(&self.opened, tag as usize),

@@ -1,6 +1,7 @@
 // What an operation changes, rows H1 and H2.
 ghost use Rattle.std.specs.Prelude.{◌≡◌, ◌+◌, ◌<◌, ◌^◌, IfSome, IsTrue, Some, option_map, true};
 ghost use Rattle.cxl_message.specs.Formed.{place_exists};
+ghost use Rattle.event_room.specs.Parts.{commit_of, message_of, sends_of};
 ghost use Rattle.host_tables.specs.Operating.{GoesOn, opened_all};
 ghost use Rattle.host_plans.specs.Plans.{HasRoomFor, PlanHolds};
 ghost use Rattle.host_record.specs.HostChanges.{opened_by, operated, stream_begins, with_opened, ways_after_hit};
@@ -10,7 +11,8 @@ ghost use Rattle.host_record.specs.Ways.{add_way, drop_way_of, has_way};
 use crate::host::HostTables;
 use crate::streams::begin_stream;
 use crate::tables::set;
-use cxl_message::{Commit, CopyState, Line, Message, Op, Sends, Tag};
+use cxl_message::{CopyState, Line, Op, Tag};
+use event_room::{CommitRef, MessageHead, MessageRef, SendsRef};
 use host_plans::Plan;
 use line_states::{Open, OpenKind};
 
@@ -22,12 +24,12 @@ impl HostTables {
         stream: u8,
         index: u32,
         op: &Op,
-        sends: &Sends,
-        commit: &Option<Commit>,
+        sends: SendsRef<'_>,
+        commit: Option<CommitRef<'_>>,
     )
         requires holds { PlanHolds self.old.setup.ways self.old.setup.lines self.old.kept.ways self.old.kept.busy op.now plan }
-        requires goes_on { GoesOn self.old.host stream index self.old.kept op.now plan (record { sends = sends.now; commit = commit.now }) }
-        ensures { self.new ≡ record self.old { kept = operated self.old.setup stream index op.now sends.now commit.now self.old.kept } }
+        requires goes_on { GoesOn self.old.host stream index self.old.kept op.now plan (record { sends = sends_of sends; commit = option_map commit_of commit }) }
+        ensures { self.new ≡ record self.old { kept = operated self.old.setup stream index op.now (sends_of sends.entry) (option_map commit_of commit.entry) self.old.kept } }
     {
         match plan {
             Plan::Hit => {
@@ -64,12 +66,12 @@ impl HostTables {
     }
 
     /// H1: a store that hits is in its line's copy, which is modified then.
-    fn store(&mut self, op: &Op, commit: &Option<Commit>)
-        ensures { self.new ≡ record self.old { kept = record self.old.kept { ways = ways_after_hit op.now commit.now self.old.kept.ways } } }
+    fn store(&mut self, op: &Op, commit: Option<CommitRef<'_>>)
+        ensures { self.new ≡ record self.old { kept = record self.old.kept { ways = ways_after_hit op.now (option_map commit_of commit.entry) self.old.kept.ways } } }
     {
         match (op, commit) {
             (Op::Word { line, .. } | Op::Whole { line, .. }, Some(commit)) => {
-                self.put_copy(*line, CopyState::M, &commit.value);
+                self.put_copy(*line, CopyState::M, commit.value);
             }
             _ => {}
         }
@@ -91,46 +93,46 @@ impl HostTables {
     }
 
     /// H2: what the messages of an operation open.
-    fn open_all(&mut self, stream: u8, index: u32, op: &Op, sends: &Sends)
+    fn open_all(&mut self, stream: u8, index: u32, op: &Op, sends: SendsRef<'_>)
         requires { IsTrue (place_exists op.now) }
-        ensures { self.new ≡ record self.old { kept = opened_all stream index op.now sends.now self.old.kept } }
+        ensures { self.new ≡ record self.old { kept = opened_all stream index op.now (sends_of sends.entry) self.old.kept } }
     {
         match sends {
-            Sends::Nothing => {}
-            Sends::One(out) => self.open_by(stream, index, op, &out.message),
-            Sends::Two(first, second) => {
-                self.open_by(stream, index, op, &first.message);
-                self.open_by(stream, index, op, &second.message);
+            SendsRef::Nothing => {}
+            SendsRef::One(out) => self.open_by(stream, index, op, out.message),
+            SendsRef::Two(first, second) => {
+                self.open_by(stream, index, op, first.message);
+                self.open_by(stream, index, op, second.message);
             }
         }
     }
 
     /// H2: what a message of an operation opens.
-    fn open_by(&mut self, stream: u8, index: u32, op: &Op, message: &Message)
+    fn open_by(&mut self, stream: u8, index: u32, op: &Op, message: MessageRef<'_>)
         requires { IsTrue (place_exists op.now) }
-        ensures { self.new ≡ record self.old { kept = with_opened (opened_by stream index op.now message.now) self.old.kept } }
+        ensures { self.new ≡ record self.old { kept = with_opened (opened_by stream index op.now (message_of message.entry)) self.old.kept } }
     {
-        match message {
-            Message::Req {
+        match message.head {
+            MessageHead::Req {
                 op: request,
                 meta,
                 tag,
                 line,
                 ..
             } => {
-                let kind = OpenKind::of_request(*request, *meta);
-                self.open_with_tag(*line, *tag, Open::new(kind, *tag, stream, index, op));
+                let kind = OpenKind::of_request(request, meta);
+                self.open_with_tag(line, tag, Open::new(kind, tag, stream, index, op));
             }
-            Message::MemWr { tag, line, .. } => {
+            MessageHead::MemWr { tag, line, .. } => {
                 let kind = OpenKind::DirtyEviction;
-                self.open_with_tag(*line, *tag, Open::new(kind, *tag, stream, index, op));
+                self.open_with_tag(line, tag, Open::new(kind, tag, stream, index, op));
             }
-            Message::BiConflict { .. } => {}
-            Message::BiRsp { .. } => {}
-            Message::Ndr { .. } => {}
-            Message::MemData { .. } => {}
-            Message::BiSnp { .. } => {}
-            Message::Credit { .. } => {}
+            MessageHead::BiConflict { .. } => {}
+            MessageHead::BiRsp { .. } => {}
+            MessageHead::Ndr { .. } => {}
+            MessageHead::MemData { .. } => {}
+            MessageHead::BiSnp { .. } => {}
+            MessageHead::Credit { .. } => {}
         }
     }
 

@@ -1,11 +1,11 @@
 // How an operation goes, by what a host keeps.
 ghost use Rattle.std.specs.Prelude.{◌≡◌, IfOk};
 ghost use Rattle.host_plans.specs.Answers.{planned_in};
-ghost use Rattle.host_plans.specs.Plans.{PlanHolds, planned_sends};
+ghost use Rattle.host_plans.specs.Plans.{PlanHolds};
 
 use crate::host::HostTables;
-use cxl_message::{Op, Sends};
-use host_plans::{Plan, Unplanned, plan, plan_sends};
+use cxl_message::Op;
+use host_plans::{Plan, Unplanned, plan};
 
 impl HostTables {
     /// How an operation goes, or the first cause that it has no plan.
@@ -21,12 +21,5 @@ impl HostTables {
             &self.conflicts,
             op,
         )
-    }
-
-    /// What an operation sends by its plan.
-    pub fn sends_of(&self, op: &Op, plan: Plan) -> Sends
-        ensures { result ≡ planned_sends self.now.host self.now.kept.ways op.now plan }
-    {
-        plan_sends(self.host, &self.cache, op, plan)
     }
 }

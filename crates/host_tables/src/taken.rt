@@ -1,7 +1,9 @@
 // What the take of a message changes, rows H3 to H6.
-ghost use Rattle.std.specs.Prelude.{◌≡◌, ◌<◌, ◌+◌, None, Option, Some, is_some, length, slice_set, true};
+ghost use Rattle.std.specs.Prelude.{◌≡◌, ◌<◌, ◌+◌, None, Option, Some, is_some, length, option_map, slice_set, true};
 ghost use Rattle.std.specs.Option.{option_map_or};
+ghost use Rattle.cxl_message.specs.Events.{line_of};
 ghost use Rattle.cxl_message.specs.Spans.{lines_of};
+ghost use Rattle.event_room.specs.Parts.{commit_of, op_of};
 ghost use Rattle.coherence_model.specs.Snoops.{Snoop};
 ghost use Rattle.coherence_model.specs.Stages.{Stage, conflict_end};
 ghost use Rattle.host_record.specs.HostChanges.{acknowledged, answered, completed, earn, filled_by, grant_in, owing_drs, owing_ndr, snooped, stream_ends, took, took_ndr, with_finished, with_marked};
@@ -16,9 +18,8 @@ ghost use Rattle.host_cache.specs.Caches.{copy_with};
 use crate::host::HostTables;
 use crate::streams::end_stream;
 use crate::tables::{number_at, set};
-use cxl_message::{
-    Bytes64, Channel, Commit, CopyState, Line, Message, NdrOp, Op, SnpOp, Span, Tag,
-};
+use cxl_message::{Bytes64, Channel, CopyState, Line, Message, NdrOp, SnpOp, Span, Tag};
+use event_room::{CommitRef, OpHead, OpRef};
 use line_states::{LineStage, Open, StageKind};
 
 impl HostTables {
@@ -66,7 +67,8 @@ impl HostTables {
         ensures { self.new ≡ record self.old { kept = with_marked tag.0 (λ o. record o { grant = Some grant }) self.old.kept } }
     {
         if let Some(open) = self.open_with(tag) {
-            set(&mut self.opened, tag.0 as usize, Some(open.granted(grant)));
+            let granted = open.granted(grant);
+            set(&mut self.opened, tag.0 as usize, Some(granted));
         }
     }
 
@@ -76,11 +78,8 @@ impl HostTables {
         ensures { self.new ≡ record self.old { kept = with_marked tag.0 (λ o. record o { bytes = Some bytes.now }) self.old.kept } }
     {
         if let Some(open) = self.open_with(tag) {
-            set(
-                &mut self.opened,
-                tag.0 as usize,
-                Some(open.with_data(bytes)),
-            );
+            let brought = open.with_data(bytes);
+            set(&mut self.opened, tag.0 as usize, Some(brought));
         }
     }
 
@@ -90,35 +89,41 @@ impl HostTables {
     {
         set(&mut self.conflicts, tag.0 as usize, false);
         if let Some(line) = number_at(&self.tag_lines, tag.0 as usize) {
-            let end = Open::end_of_conflict(self.open_at(Line(line)));
+            let end = Open::end_of_conflict(self.open_at(Line(line)).copied());
             set(&mut self.stages, line as usize, end);
         }
     }
 
     /// A line that has a way has another copy, S, E or M.
     #[tactic(auto, using(crate::proofs::Copies::put_nowhere))]
-    pub(crate) fn put_copy(&mut self, line: Line, state: CopyState, bytes: &Bytes64)
-        ensures { self.new ≡ record self.old { kept = record self.old.kept { ways = put_way line.0 (copy_with state bytes.now) self.old.kept.ways } } }
+    pub(crate) fn put_copy(&mut self, line: Line, state: CopyState, bytes: &[u8; 64])
+        ensures { self.new ≡ record self.old { kept = record self.old.kept { ways = put_way line.0 (copy_with state (record { 0 = bytes.now })) self.old.kept.ways } } }
     {
         if self.cache.has_way(line) {
-            self.cache.put(line, state, bytes);
+            self.cache.put(line, state, &Bytes64(*bytes));
         }
     }
 
     /// A fill: the way of the operation's line has its copy, the stream has its commit, and what is open is finished.
-    #[tactic(auto, using(crate::proofs::Copies::filled_is))]
-    fn fill(&mut self, tag: Tag, grant: Option<NdrOp>, commit: &Commit)
-        ensures { self.new ≡ record self.old { kept = answered tag.0 grant (λ o. o) (Some commit.now) self.old.kept } }
+    fn fill(&mut self, tag: Tag, grant: Option<NdrOp>, commit: CommitRef<'_>)
+        ensures { self.new ≡ record self.old { kept = answered tag.0 grant (λ o. o) (Some (commit_of commit.entry)) self.old.kept } }
     {
-        let state = filled_state(grant, &commit.op);
-        self.put_copy(commit.op.line(), state, &commit.value);
+        self.put_filled(grant, commit);
         end_stream(&mut self.streams, commit.stream);
         self.finish(tag);
     }
 
+    /// A fill: the way of the operation's line has its copy.
+    fn put_filled(&mut self, grant: Option<NdrOp>, commit: CommitRef<'_>)
+        ensures { self.new ≡ record self.old { kept = record self.old.kept { ways = put_way (line_of (op_of commit.entry.op)) (filled_by grant (commit_of commit.entry) (op_of commit.entry.op)) self.old.kept.ways } } }
+    {
+        let state = filled_state(grant, commit.op);
+        self.put_copy(line_named(commit.op), state, commit.value);
+    }
+
     /// H3, Cmp-S and Cmp-E: it fills, or the grant is kept.
-    fn grant(&mut self, tag: Tag, grant: NdrOp, commit: &Option<Commit>)
-        ensures { self.new ≡ record self.old { kept = answered tag.0 (Some grant) (λ o. record o { grant = Some grant }) commit.now self.old.kept } }
+    fn grant(&mut self, tag: Tag, grant: NdrOp, commit: Option<CommitRef<'_>>)
+        ensures { self.new ≡ record self.old { kept = answered tag.0 (Some grant) (λ o. record o { grant = Some grant }) (option_map commit_of commit.entry) self.old.kept } }
     {
         match commit {
             Some(commit) => self.fill(tag, Some(grant), commit),
@@ -127,8 +132,8 @@ impl HostTables {
     }
 
     /// H3, MemData: it fills with the grant that was taken, or the bytes are kept.
-    fn bring(&mut self, tag: Tag, bytes: &Bytes64, commit: &Option<Commit>)
-        ensures { self.new ≡ record self.old { kept = answered tag.0 (grant_in tag.0 self.old.kept) (λ o. record o { bytes = Some bytes.now }) commit.now self.old.kept } }
+    fn bring(&mut self, tag: Tag, bytes: &Bytes64, commit: Option<CommitRef<'_>>)
+        ensures { self.new ≡ record self.old { kept = answered tag.0 (grant_in tag.0 self.old.kept) (λ o. record o { bytes = Some bytes.now }) (option_map commit_of commit.entry) self.old.kept } }
     {
         match commit {
             Some(commit) => self.fill(tag, self.grant_of(tag), commit),
@@ -147,8 +152,8 @@ impl HostTables {
     }
 
     /// H3 and H5: an NDR message was taken.
-    fn take_ndr(&mut self, op: NdrOp, tag: Tag, commit: &Option<Commit>)
-        ensures { self.new ≡ record self.old { kept = took_ndr self.old.setup op tag.0 commit.now self.old.kept } }
+    fn take_ndr(&mut self, op: NdrOp, tag: Tag, commit: Option<CommitRef<'_>>)
+        ensures { self.new ≡ record self.old { kept = took_ndr self.old.setup op tag.0 (option_map commit_of commit.entry) self.old.kept } }
     {
         match op {
             NdrOp::Cmp => self.complete(tag),
@@ -200,9 +205,9 @@ impl HostTables {
     }
 
     /// What the take of a message changes, by what it committed.
-    pub fn take(&mut self, message: &Message, commit: &Option<Commit>)
+    pub fn take(&mut self, message: &Message, commit: Option<CommitRef<'_>>)
         requires { IsRoomy self.old.setup message.now self.old.kept }
-        ensures { self.new ≡ record self.old { kept = took self.old.setup message.now commit.now self.old.kept } }
+        ensures { self.new ≡ record self.old { kept = took self.old.setup message.now (option_map commit_of commit.entry) self.old.kept } }
     {
         match message {
             Message::Ndr { op, tag } => {
@@ -224,14 +229,25 @@ impl HostTables {
 }
 
 /// The state of a copy that a fill leaves: as it was granted for a Load, M for a store.
-fn filled_state(grant: Option<NdrOp>, op: &Op) -> CopyState
-    ensures { result ≡ state_filled grant op.now }
+fn filled_state(grant: Option<NdrOp>, op: OpRef<'_>) -> CopyState
+    ensures { result ≡ state_filled grant (op_of op.entry) }
 {
-    match op {
-        Op::Word { .. } | Op::Whole { .. } => CopyState::M,
-        Op::Load { .. } => match grant {
+    match op.head {
+        OpHead::Word { .. } | OpHead::Whole { .. } => CopyState::M,
+        OpHead::Load { .. } => match grant {
             Some(NdrOp::CmpS) => CopyState::S,
             Some(NdrOp::Cmp | NdrOp::CmpE | NdrOp::ConflictAck) | None => CopyState::E,
         },
+    }
+}
+
+/// The line of an operation.
+fn line_named(op: OpRef<'_>) -> Line
+    ensures { result.0 ≡ line_of (op_of op.entry) }
+{
+    match op.head {
+        OpHead::Load { line } => line,
+        OpHead::Word { line, .. } => line,
+        OpHead::Whole { line } => line,
     }
 }
