@@ -1,0 +1,9 @@
+mod Joined
+mod Places
+mod Picked
+pub mod Parts
+pub mod Tables
+pub mod Flights
+pub mod Moves
+pub mod Going
+mod Sums
