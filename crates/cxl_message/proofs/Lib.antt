@@ -4,3 +4,4 @@ pub mod SameNames
 pub mod SameMessages
 pub mod SameEvents
 pub mod Decided
+mod SameSends
