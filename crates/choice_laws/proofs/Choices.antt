@@ -1,6 +1,6 @@
 -- The choices of a script by the hosts' answers, and driving by number.
 use Rattle.std.proofs.Common.{◌≡◌, ℕ, zero, suc, ◌+◌, ◌-◌, ◌*◌, ◌%◌, ◌<◌, ◌≤◌, Bool, true, false, cond, List, [], ◌∷◌, ◌++◌, length, Option, Some, None, refl, ap, sym, ◌∙◌, arith, inl, inr}
-use Rattle.std.specs.Prelude.{flat_map, nat_lt, not, option_map, slice_get, ◌&&◌}
+use Rattle.std.specs.Prelude.{flat_map, nat_lt, not, option_map, option_to_list, slice_get, ◌&&◌}
 use Rattle.std.specs.Option.{option_map_or}
 use Rattle.std.proofs.lemmas.Bool.{ltb-false, and_from, and_right, eq-eqb, false≢true, ltb-true}
 use Rattle.std.proofs.lemmas.List.{length-append}
@@ -12,8 +12,11 @@ use Rattle.cxl_message.specs.declared.events.Op.{Op}
 use Rattle.cxl_message.specs.Script.{ScriptValue}
 use Rattle.coherence_model.specs.Choices.{Stream, choices, operation_step, stream_step, streams_of}
 use Rattle.coherence_model.specs.Driven.{pick_from, pick_now}
-use Rattle.coherence_model.specs.Next.{next_steps, step_of}
+use Rattle.coherence_model.specs.Emission.{Emission}
+use Rattle.coherence_model.specs.Fitting.{is_device}
+use Rattle.coherence_model.specs.Next.{event_with, next_steps, step_of}
 use Rattle.coherence_model.specs.Refusals.{cause_passes}
+use Rattle.coherence_model.specs.Rows.{emission}
 use Rattle.coherence_model.specs.Rules.{s0_stream_order}
 use Rattle.coherence_model.specs.Streams.{begun_count, stream_waits}
 use Rattle.coherence_model.specs.Traces.{events_of}
@@ -27,9 +30,9 @@ use Rattle.bound_laws.specs.Laws.{most_next_steps}
 use Rattle.cxl_message.specs.declared.limits.TheConstants.{MAX_STREAMS}
 use Rattle.bound_laws.proofs.Few.{next_steps_are_few}
 use Rattle.bound_laws.proofs.Joined.{joined_within, one_at_most}
+use Rattle.answer_laws.proofs.Answers.{host_answer_is_row}
 use Rattle.choice_laws.specs.Answered.{host_steps, next_answer}
 use Rattle.choice_laws.specs.Laws.{AnyPickReaches, ChoiceIsAtItsPlace, ChoicesAreAnswered, ChoicesAreFew, WayGoesByNumber}
-use Rattle.choice_laws.proofs.Answers.{host_answer_is_row}
 
 -- ---- the choices
 
@@ -67,6 +70,20 @@ waiting_by script can t y of op is false waits =
     (and_from _ _ (cause_is_fit script can y.number y.host i y.operations op of.host of.operations is)
     (and_from _ _ (and_from _ _ (eq-eqb i i refl) (in_order script can y.number y.operations op mine of.operations is)) (ap not waits)))
 
+-- the steps of what stands behind a gate
+steps_behind : (h : ℕ) (cause : Cause) (gate : Bool) (o : Option Emission) → option_to_list (option_map (event_with h cause) (cond gate o None)) ≡ cond gate (option_to_list (option_map (event_with h cause) o)) []
+steps_behind h cause true o = refl
+steps_behind h cause false o = refl
+
+-- a host's answer gives the step of its row, where the cause passes and comes in its stream's order
+steps_answered :
+    (script : ScriptValue) (t : List Event) (h : ℕ) (cause : Cause) → is_device h ≡ false
+    → host_steps script t h cause ≡ cond (cause_passes script.setup h cause && s0_stream_order cause (events_of h t)) (step_of script.setup script.opening t h cause) []
+steps_answered script t h cause host =
+    let mine = events_of h t in
+    ap (λ o. option_to_list (option_map (event_with h cause) o)) (host_answer_is_row script.setup script.opening h cause mine host)
+    ∙ steps_behind h cause (cause_passes script.setup h cause && s0_stream_order cause mine) (emission script.setup script.opening h cause mine)
+
 -- no operation left, no step
 none_left : (script : ScriptValue) (t : List Event) (y : Stream) (waits : Bool) → operation_step script t y (cond waits None None) ≡ []
 none_left script t y true = refl
@@ -81,7 +98,7 @@ answer_by script can t y of None is =
 answer_by script can t y of (Some op) is =
     ap (λ (o : Option Op). operation_step script t y (cond (stream_waits y.number (events_of y.host t)) None o)) is
     ∙ waiting_by script can t y of op is (stream_waits y.number (events_of y.host t)) refl
-    ∙ sym (host_answer_is_row script.setup script.opening t y.host (Cause.Op y.number (begun_count y.number (events_of y.host t)) op) (not_the_device script.setup can.limits y.number y.host of.host))
+    ∙ sym (steps_answered script t y.host (Cause.Op y.number (begun_count y.number (events_of y.host t)) op) (not_the_device script.setup can.limits y.number y.host of.host))
 
 pub choices_are_answered : ChoicesAreAnswered
 choices_are_answered script can t =

@@ -6,17 +6,8 @@ ghost use Rattle.choice_laws.specs.Laws.{
   ChoiceIsAtItsPlace,
   ChoicesAreAnswered,
   ChoicesAreFew,
-  DeviceAnswerIsRow,
-  HostAnswerIsRow,
   WayGoesByNumber,
 };
-
-/// An agent answers with what its row emits, as the event of that cause, exactly where the cause passes, comes in its stream's order and
-/// has the credits. Each refusal that stands before the row is one where the row gives nothing (own rule: the order of refusals).
-pub fn answers_are_rows()
-    ensures host { HostAnswerIsRow }
-    ensures device { DeviceAnswerIsRow }
-{}
 
 /// For each script that can be driven, after any trace, the choices are the next steps and then what each stream's host answers to its
 /// next operation, if one is left and isn't refused. After a run there are at most 1,200,064 (own rule: the choices).

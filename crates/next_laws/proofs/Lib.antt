@@ -1,0 +1,4 @@
+mod Lists
+mod Takes
+mod Acts
+pub mod Steps
