@@ -7,6 +7,3 @@ mod answers;
 pub use agents::DeviceAgent;
 pub use answers::OpenDeviceRefusal;
 pub use device_rows::DeviceRefusal;
-
-#[cfg(test)]
-mod tests;

@@ -9,6 +9,3 @@ mod lines;
 
 pub use buffers::Served;
 pub use lines::DeviceLines;
-
-#[cfg(test)]
-mod tests;

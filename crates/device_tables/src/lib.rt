@@ -12,6 +12,3 @@ mod waiting;
 pub use credits::HostCredits;
 pub use tasks::{Task, TaskKind, Tasks};
 pub use waiting::{Progress, Requests, Waiting};
-
-#[cfg(test)]
-mod tests;

@@ -6,6 +6,3 @@ mod weighing;
 
 pub use counting::{act_at, act_count};
 pub use weighing::weight;
-
-#[cfg(test)]
-mod tests;

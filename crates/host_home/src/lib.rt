@@ -10,6 +10,3 @@ pub use agent::HostAgent;
 pub use emissions::Emitted;
 pub use event_room::EventRoom;
 pub use host_rows::HostRefusal;
-
-#[cfg(test)]
-mod tests;

@@ -20,6 +20,3 @@ pub use crediting::lacking;
 pub use operating::{answer_operation, step_operation};
 pub use stepping::{answer_act, answer_take, step_act, step_take};
 pub use taking::{TakeRow, take_row};
-
-#[cfg(test)]
-mod tests;

@@ -15,6 +15,3 @@ mod tables;
 mod taken;
 
 pub use host::{HostTables, TagNumber};
-
-#[cfg(test)]
-mod tests;

@@ -22,6 +22,3 @@ pub use parsing::parse_script;
 pub use printing::print_script;
 pub use refusals::{ScriptReason, ScriptRefusal};
 pub use scripts::Script;
-
-#[cfg(test)]
-mod tests;

@@ -23,6 +23,3 @@ pub use readers::TraceReader;
 pub use refusals::TraceWriteRefusal;
 pub use rooms::Room;
 pub use writers::TraceWriter;
-
-#[cfg(test)]
-mod tests;

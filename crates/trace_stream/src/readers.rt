@@ -115,6 +115,8 @@ impl TraceReader {
     /// taken, as if these had been fed before `next_into`. A record that is whole is read where it stands, and only one
     /// that is cut short is kept: so all of the piece is taken where `More` is answered. After each item the next call
     /// is given the rest of the piece. Where a fault is answered, as many bytes were taken as there was room for.
+    ///
+    /// It is made for large pieces. Who has bytes one by one is quicker by `feed` and `next_into`.
     #[inline(always)]
     pub fn next_from(&mut self, piece: &[u8], room: &mut Room) -> Result<(Found, usize), TraceFault>
         requires { fed_count self.old + length piece.now < 2 ^ 63 }

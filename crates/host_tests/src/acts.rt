@@ -1,6 +1,6 @@
-use super::*;
 use cxl_message::{Act, BiTag, Cause, Channel, Line, Message, Setup, SnpOp, Span};
 use event_room::EventRoom;
+use host_acts::{act_at, act_count, weight};
 use host_rows::{step_act, step_take};
 use host_tables::HostTables;
 use std::test::Fail;

@@ -1,10 +1,8 @@
-mod worked;
-
-use super::*;
 use cxl_message::{
     Act, BiTag, Bytes64, Cause, Channel, Line, Listing, Message, Meta, Op, Opening, ReqOp, RspOp,
     RuleNo, Sends, Setup, SnpType, Tag,
 };
+use device_engine::{DeviceAgent, DeviceRefusal, OpenDeviceRefusal};
 use event_room::EventRoom;
 use std::process::Abort;
 use std::test::Fail;

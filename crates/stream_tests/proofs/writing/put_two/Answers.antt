@@ -1,7 +1,7 @@
 -- What was put is what went.
 use Rattle.std.proofs.Common.{[], ◌∷◌}
 use Rattle.std.proofs.lemmas.Result.{on_ok_weaker}
-use Rattle.trace_stream.proofs.tests.writing.put_two.Goals as goal
+use Rattle.stream_tests.proofs.writing.put_two.Goals as goal
 
 pub returns-clause-trace : goal.returns-clause-trace
 returns-clause-trace g c =

@@ -1,9 +1,9 @@
 // Records that are read where they stand in a piece.
-use super::samples::*;
-use crate::*;
+use crate::samples::*;
 use cxl_message::Event;
 use std::alloc::{AllocError, Global};
 use std::test::Fail;
+use trace_stream::*;
 
 // The events that were read, how many bytes each call took, and how it ends.
 #[derive(Drop)]

@@ -1,10 +1,13 @@
-use super::*;
 use cxl_message::{
     Act, Bytes64, Cause, Channel, Commit, Line, Message, Meta, NdrOp, Op, Out, ReqOp, RuleNo,
     Sends, Setup, SnpType, Tag,
 };
 use event_room::{CommitRef, EventRoom, MessageHead};
 use host_plans::Plan;
+use host_rows::{
+    HostRefusal, act_row, answer_act, answer_operation, answer_take, lacking, step_act,
+    step_operation, step_take,
+};
 use host_tables::HostTables;
 use std::test::Fail;
 

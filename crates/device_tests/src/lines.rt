@@ -1,5 +1,5 @@
-use super::*;
 use cxl_message::{Opening, Setup};
+use device_lines::DeviceLines;
 use std::test::Fail;
 
 #[test]

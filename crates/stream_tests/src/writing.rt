@@ -6,14 +6,14 @@ ghost use Rattle.cxl_codec.specs.VersionOne.{fits_version_one as has_short_tags,
 ghost use Rattle.outside_io.specs.Counts.{TellsFaults};
 ghost use Rattle.trace_stream.specs.Writing.{IsNew, WritesTrace};
 
-use super::samples::*;
-use crate::*;
+use crate::samples::*;
 use cxl_codec::{fits_version_one, setup_fits_version_one};
 use cxl_message::{Bytes64, Event, Line, Opening, Setup, well_formed};
 use event_room::EventRoom;
 use outside_io::{MemSink, Sink};
 use std::alloc::{AllocError, Global};
 use std::test::Fail;
+use trace_stream::*;
 
 // Puts the trace of two events, the second of them from its room.
 fn put_two<K: Sink>(

@@ -1,7 +1,5 @@
-mod refusals;
-
-use super::*;
 use cxl_message::{Bytes64, Line, Op};
+use script_text::{Script, ScriptReason, ScriptRefusal, parse_script, print_script};
 use std::alloc::{AllocError, Global};
 use std::process::Abort;
 use std::test::Fail;

@@ -1,9 +1,9 @@
 // Worked rows of the device, through `would` and `step`.
-use crate::{DeviceAgent, DeviceRefusal};
 use cxl_message::{
     Act, BiTag, Bytes64, Cause, Channel, Line, Message, Meta, NdrOp, Opening, Out, ReqOp, RspOp,
     RuleNo, Sends, Setup, SnpOp, SnpType, Span, Tag,
 };
+use device_engine::{DeviceAgent, DeviceRefusal};
 use std::process::Abort;
 use std::test::Fail;
 

@@ -1,8 +1,8 @@
-use super::*;
 use cxl_message::{
     Act, BiTag, Bytes64, Cause, Channel, CopyState, Line, Message, Meta, NdrOp, Op, ReqOp, RspOp,
     RuleNo, Sends, Setup, SnpOp, SnpType, Span, Tag,
 };
+use host_home::{Emitted, EventRoom, HostAgent, HostRefusal};
 use std::alloc::Global;
 
 /// Host 0 of two, with so many lines, ways, Tags and credits, and these streams.

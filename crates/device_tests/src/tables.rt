@@ -1,6 +1,6 @@
-use super::*;
 use block_snoop::Purpose;
 use cxl_message::{Channel, Line, Message, Meta, NdrOp, ReqOp, RspOp, SnpType, Span, Tag};
+use device_tables::{HostCredits, Progress, Requests, Task, TaskKind, Tasks, Waiting};
 use snoop_filter::Block;
 use std::test::Fail;
 

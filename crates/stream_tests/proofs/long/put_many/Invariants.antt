@@ -1,7 +1,7 @@
 use Rattle.std.proofs.Common.{◌≡◌, ◌+◌, ◌*◌, ◌<◌}
 use Rattle.trace_stream.specs.Buffers.{reach}
 use Rattle.trace_stream.specs.declared.progress.Progress.{Progress}
-use Rattle.trace_stream.proofs.tests.long.put_many.Given as goal
+use Rattle.stream_tests.proofs.long.put_many.Given as goal
 
 abbrev pub invariant-loop : goal.invariant-loop
 invariant-loop g l = record {

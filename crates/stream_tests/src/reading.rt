@@ -1,11 +1,11 @@
 // Traces that are cut, and bytes that aren't traces.
-use super::samples::*;
-use crate::*;
+use crate::samples::*;
 use cxl_codec::FieldName;
 use cxl_message::{Bytes64, Line, Setup};
 use std::alloc::{AllocError, Global};
 use std::process::Abort;
 use std::test::Fail;
+use trace_stream::*;
 
 // The bytes have this fault, in whatever pieces.
 fn try_fault(

@@ -4,13 +4,13 @@ ghost use Rattle.cxl_message.specs.Formed.{well_formed as is_well_formed};
 ghost use Rattle.cxl_codec.specs.VersionOne.{fits_version_one as has_short_tags, setup_fits_version_one as has_few_tags};
 ghost use Rattle.trace_stream.specs.Writing.{IsNew};
 
-use super::samples::*;
-use crate::*;
+use crate::samples::*;
 use cxl_codec::{fits_version_one, setup_fits_version_one};
 use cxl_message::{Event, Opening, Setup, well_formed};
 use outside_io::{MemSink, Sink};
 use std::alloc::Global;
 use std::test::Fail;
+use trace_stream::*;
 
 // Puts a trace of the same event so many times.
 fn put_many<K: Sink>(

@@ -1,9 +1,9 @@
-use super::*;
 use cxl_message::{
     Act, BiTag, Channel, CopyState, Line, Message, Op, Out, RspOp, Setup, SnpOp, Span, Tag,
 };
 use event_room::{OutRef, SendsRef};
 use host_plans::Plan;
+use host_tables::HostTables;
 use std::test::Fail;
 
 const LOAD: Op = Op::Load { line: Line(3) };

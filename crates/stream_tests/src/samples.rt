@@ -1,10 +1,10 @@
 // Worked examples: one load, and records of openings.
-use crate::*;
 use cxl_message::{
     Act, Bytes64, Cause, Commit, Event, Line, Message, Meta, NdrOp, Op, Out, ReqOp, Sends, SnpType,
     Tag,
 };
 use std::alloc::{AllocError, Global};
+use trace_stream::*;
 
 const ZEROS: Bytes64 = Bytes64([0; 64]);
 

@@ -1,5 +1,8 @@
 // Refusals by line and reason, one table for all forms of lines.
-use super::*;
+use script_text::{ScriptReason, ScriptRefusal, parse_script, print_script};
+use std::alloc::{AllocError, Global};
+use std::process::Abort;
+use std::test::Fail;
 
 // A script with a line of each form.
 const LINES: [&str; 16] = [

@@ -1,5 +1,0 @@
-mod long;
-mod reading;
-mod samples;
-mod standing;
-mod writing;
