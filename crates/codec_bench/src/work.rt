@@ -1,10 +1,10 @@
 // Rounds over one buffer of mixed event records, each group of eleven as in `bench_events`.
 use bench_events::{
     answered, asked, begun, committed, conflicted, granted, group, returned, room_of, snooped,
-    started, stored, written,
+    started, stored, weight_of, written,
 };
 use cxl_codec::{decode_room, encode_room};
-use event_room::{EventRoom, SendsRef};
+use event_room::EventRoom;
 use std::alloc::{AllocError, Global};
 
 /// What is timed.
@@ -128,18 +128,4 @@ fn decode(groups: u32, bytes: &[u8], rooms: &mut [EventRoom], tally: &mut Tally)
             rest = rest.get(length..).unwrap_or(&[]);
         }
     }
-}
-
-/// A number that depends on the parts of an event.
-fn weight_of(event: &EventRoom) -> u64 {
-    let sent: u64 = match event.sends() {
-        SendsRef::Nothing => 0,
-        SendsRef::One(_) => 1,
-        SendsRef::Two(_, _) => 2,
-    };
-    let seen = match event.commit() {
-        None => 0,
-        Some(commit) => u64::from(commit.value[63]),
-    };
-    sent.wrapping_add(seen)
 }

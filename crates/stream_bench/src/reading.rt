@@ -57,7 +57,7 @@ fn feed(reader: &mut TraceReader, piece: &[u8], room: &mut Room, tally: &mut Tal
 {
     let mut ended = false;
     let mut rest = piece;
-    for _ in 0..piece.len().saturating_add(ITEMS) {
+    for _ in 0..piece.len() + ITEMS {
         match reader.next_from(rest, room) {
             Ok((Found::More, _)) => return ended,
             Ok((found, count)) => {

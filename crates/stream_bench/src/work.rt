@@ -1,7 +1,8 @@
 // Rounds over one trace of mixed event records, each group of eleven as in `bench_events`.
 use crate::reading::{decode, read};
 use crate::writing::{encode, trace_of, write};
-use event_room::{EventRoom, SendsRef};
+use bench_events::weight_of;
+use event_room::EventRoom;
 use std::alloc::{AllocError, Global};
 
 /// What is timed.
@@ -81,18 +82,4 @@ pub fn run(alloc: Global, work: Work, size: Size) -> Result<Tally, AllocError> {
         }
     }
     Ok(tally)
-}
-
-/// A number that depends on the parts of an event.
-fn weight_of(event: &EventRoom) -> u64 {
-    let sent: u64 = match event.sends() {
-        SendsRef::Nothing => 0,
-        SendsRef::One(_) => 1,
-        SendsRef::Two(_, _) => 2,
-    };
-    let seen = match event.commit() {
-        None => 0,
-        Some(commit) => u64::from(commit.value[63]),
-    };
-    sent.wrapping_add(seen)
 }
