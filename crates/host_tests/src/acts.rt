@@ -1,9 +1,33 @@
 use cxl_message::{Act, BiTag, Cause, Channel, Line, Message, Setup, SnpOp, Span};
 use event_room::EventRoom;
 use host_acts::{act_at, act_count, weight};
-use host_rows::{step_act, step_take};
+use host_rows::{HostRefusal, step_act, step_take};
 use host_tables::HostTables;
 use std::test::Fail;
+
+/// A snoop of line 3 alone.
+const SNOOP: Message = Message::BiSnp {
+    op: SnpOp::Inv,
+    bitag: BiTag(3),
+    line: Line(3),
+    span: Span::One,
+};
+
+/// Takes the snoop.
+fn snooped(host: &mut HostTables) -> Result<(), HostRefusal> {
+    let mut room = EventRoom::new();
+    let cause = Cause::Take {
+        host: 0,
+        message: SNOOP,
+    };
+    step_take(host, &cause, 0, &SNOOP, &mut room)
+}
+
+/// Does an act.
+fn does(host: &mut HostTables, act: &Act) -> Result<(), HostRefusal> {
+    let mut room = EventRoom::new();
+    step_act(host, act, &mut room)
+}
 
 #[test]
 fn acts_are_counted_and_picked_in_their_order(rt: HostRuntime) -> Result<(), Fail> {
@@ -12,26 +36,11 @@ fn acts_are_counted_and_picked_in_their_order(rt: HostRuntime) -> Result<(), Fai
     assert_eq!(rt; act_count(&host), 0);
     assert_eq!(rt; act_at(&host, 0), None);
     assert_eq!(rt; weight(&host), 0);
-    let op = SnpOp::Inv;
-    let bitag = BiTag(3);
-    let line = Line(3);
-    let span = Span::One;
-    let snoop = Message::BiSnp {
-        op,
-        bitag,
-        line,
-        span,
-    };
-    let cause = Cause::Take {
-        host: 0,
-        message: snoop,
-    };
-    let mut room = EventRoom::new();
-    step_take(&mut host, &cause, 0, &snoop, &mut room)?;
+    snooped(&mut host)?;
     assert_eq!(rt; act_count(&host), 1);
-    assert_eq!(rt; act_at(&host, 0), Some(Act::Answer(line)));
+    assert_eq!(rt; act_at(&host, 0), Some(Act::Answer(Line(3))));
     assert_eq!(rt; act_at(&host, 1), None);
-    step_act(&mut host, &Act::Answer(line), &mut room)?;
+    does(&mut host, &Act::Answer(Line(3)))?;
     assert_eq!(rt; act_count(&host), 1);
     assert_eq!(rt; act_at(&host, 0), Some(Act::HostReturn(Channel::BiSnp)));
     assert_eq!(rt; weight(&host), 2);

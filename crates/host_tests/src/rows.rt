@@ -9,26 +9,15 @@ use host_rows::{
     step_operation, step_take,
 };
 use host_tables::HostTables;
+use std::alloc::Global;
 use std::test::Fail;
 
 const LOAD: Op = Op::Load { line: Line(3) };
-
-const LOADS: Cause = Cause::Op {
-    stream: 0,
-    index: 0,
-    op: LOAD,
-};
 
 const STORE: Op = Op::Word {
     line: Line(3),
     place: 8,
     value: 1,
-};
-
-const STORES: Cause = Cause::Op {
-    stream: 0,
-    index: 0,
-    op: STORE,
 };
 
 const BYTES: Bytes64 = Bytes64([7; 64]);
@@ -65,66 +54,120 @@ const LOADED: Commit = Commit {
     value: BYTES,
 };
 
+/// The one host of a setup of 8 lines, with a stream.
+fn opened(alloc: Global) -> Option<HostTables> {
+    let setup = Setup::new(1, 8, 4, 4, 2, 2, &[0]).ok()?;
+    HostTables::open(alloc, &setup, 0).ok()
+}
+
+/// The plan of the stream's first operation, whose event goes into the room.
+fn planned(host: &HostTables, op: &Op, room: &mut EventRoom) -> Result<Plan, HostRefusal> {
+    let cause = Cause::Op {
+        stream: 0,
+        index: 0,
+        op: *op,
+    };
+    answer_operation(host, &cause, 0, 0, op, room)
+}
+
+/// Begins the stream's first operation.
+fn operates(host: &mut HostTables, op: &Op, room: &mut EventRoom) -> Result<(), HostRefusal> {
+    let cause = Cause::Op {
+        stream: 0,
+        index: 0,
+        op: *op,
+    };
+    step_operation(host, &cause, 0, 0, op, room)
+}
+
+/// Foretells the take of a message of host 0.
+fn may_take(host: &HostTables, message: &Message, room: &mut EventRoom) -> bool {
+    let cause = Cause::Take {
+        host: 0,
+        message: *message,
+    };
+    answer_take(host, &cause, 0, message, room).is_ok()
+}
+
+/// Takes a message of a host.
+fn takes(
+    host: &mut HostTables,
+    from: u8,
+    message: &Message,
+    room: &mut EventRoom,
+) -> Result<(), HostRefusal> {
+    let cause = Cause::Take {
+        host: from,
+        message: *message,
+    };
+    step_take(host, &cause, from, message, room)
+}
+
+/// Whether the event in a room sends this and nothing else.
+fn sends(room: &EventRoom, wanted: &Sends) -> bool {
+    room.sends().sends() == *wanted
+}
+
+/// Gives the credit for a message of the NDR channel back, as it is foretold.
+fn returns(host: &mut HostTables, room: &mut EventRoom) -> Result<(), HostRefusal> {
+    let channel = Channel::Ndr;
+    answer_act(host, &Act::HostReturn(channel), room)?;
+    step_act(host, &Act::HostReturn(channel), room)
+}
+
 #[test]
 fn a_load_is_requested_granted_and_filled(rt: HostRuntime) -> Result<(), Fail> {
-    let setup = Setup::new(1, 8, 4, 4, 2, 2, &[0])?;
-    let mut host = HostTables::open(rt.alloc(), &setup, 0)?;
+    let mut host = opened(rt.alloc()).ok_or("a host")?;
     let mut room = EventRoom::new();
-    let plan = answer_operation(&host, &LOADS, 0, 0, &LOAD, &mut room)?;
+    let plan = planned(&host, &LOAD, &mut room)?;
     assert_eq!(rt; plan, Plan::Request { tag: Tag(0) });
-    assert_eq!(rt; room.sends().sends(), Sends::One(REQUEST));
-    step_operation(&mut host, &LOADS, 0, 0, &LOAD, &mut room)?;
-    assert_eq!(rt; room.sends().sends(), Sends::One(REQUEST));
-    let granted = Cause::Take {
-        host: 0,
-        message: GRANT,
-    };
-    answer_take(&host, &granted, 0, &GRANT, &mut room)?;
-    assert_eq!(rt; room.sends().sends(), Sends::Nothing);
-    step_take(&mut host, &granted, 0, &GRANT, &mut room)?;
-    let brought = Cause::Take {
-        host: 0,
-        message: DATA,
-    };
-    step_take(&mut host, &brought, 0, &DATA, &mut room)?;
+    assert!(rt; sends(&room, &Sends::One(REQUEST)));
+    operates(&mut host, &LOAD, &mut room)?;
+    assert!(rt; sends(&room, &Sends::One(REQUEST)));
+    assert!(rt; may_take(&host, &GRANT, &mut room));
+    takes(&mut host, 0, &GRANT, &mut room)?;
+    assert!(rt; sends(&room, &Sends::Nothing));
+    takes(&mut host, 0, &DATA, &mut room)?;
     assert_eq!(rt; room.commit().map(CommitRef::commit), Some(LOADED));
+    Ok(())
+}
+
+/// The host after the grant of its load.
+fn granted(alloc: Global) -> Option<HostTables> {
+    let mut host = opened(alloc)?;
+    let mut room = EventRoom::new();
+    operates(&mut host, &LOAD, &mut room).ok()?;
+    takes(&mut host, 0, &GRANT, &mut room).ok()?;
+    Some(host)
+}
+
+#[test]
+fn the_credit_of_a_grant_is_given_back(rt: HostRuntime) -> Result<(), Fail> {
+    let mut host = granted(rt.alloc()).ok_or("a host with a grant")?;
+    let mut room = EventRoom::new();
     let channel = Channel::Ndr;
-    let returns = Act::HostReturn(channel);
     let head = MessageHead::Credit { channel };
-    assert_eq!(rt; act_row(&host, &returns), Some(head));
+    assert_eq!(rt; act_row(&host, &Act::HostReturn(channel)), Some(head));
     assert_eq!(rt; lacking(&host, head), None);
-    answer_act(&host, &returns, &mut room)?;
-    step_act(&mut host, &returns, &mut room)?;
-    let returned = Out {
-        host: 0,
-        message: Message::Credit { channel },
-    };
-    assert_eq!(rt; room.sends().sends(), Sends::One(returned));
+    returns(&mut host, &mut room)?;
+    let message = Message::Credit { channel };
+    assert!(rt; sends(&room, &Sends::One(Out { host: 0, message })));
     Ok(())
 }
 
 #[test]
 fn what_is_refused_changes_nothing(rt: HostRuntime) -> Result<(), Fail> {
-    let setup = Setup::new(1, 8, 4, 4, 2, 2, &[0])?;
-    let mut host = HostTables::open(rt.alloc(), &setup, 0)?;
+    let mut host = opened(rt.alloc()).ok_or("a host")?;
     let mut room = EventRoom::new();
     let p0 = HostRefusal::Broken(RuleNo::P0);
-    assert!(rt; step_operation(&mut host, &STORES, 0, 0, &STORE, &mut room) == Err(p0));
-    let astray = Cause::Take {
-        host: 1,
-        message: GRANT,
-    };
-    assert!(rt; step_take(&mut host, &astray, 1, &GRANT, &mut room) == Err(p0));
-    let granted = Cause::Take {
-        host: 0,
-        message: GRANT,
-    };
+    assert!(rt; operates(&mut host, &STORE, &mut room) == Err(p0));
+    assert!(rt; takes(&mut host, 1, &GRANT, &mut room) == Err(p0));
     let h3 = HostRefusal::Broken(RuleNo::H3);
-    assert!(rt; step_take(&mut host, &granted, 0, &GRANT, &mut room) == Err(h3));
+    assert!(rt; takes(&mut host, 0, &GRANT, &mut room) == Err(h3));
     let h7 = HostRefusal::Broken(RuleNo::H7);
     assert!(rt; step_act(&mut host, &Act::Conflict(Line(3)), &mut room) == Err(h7));
     assert_eq!(rt; room.agent(), 0);
-    step_operation(&mut host, &LOADS, 0, 0, &LOAD, &mut room)?;
-    assert_eq!(rt; room.sends().sends(), Sends::One(REQUEST));
+    operates(&mut host, &LOAD, &mut room)?;
+    assert!(rt; sends(&room, &Sends::One(REQUEST)));
     Ok(())
 }
