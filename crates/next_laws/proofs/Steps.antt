@@ -5,11 +5,13 @@ use Rattle.std.specs.List.{list_all}
 use Rattle.std.proofs.lemmas.Bool.{and_parts, lt-ltb, ne_eqb}
 use Rattle.std.proofs.lemmas.Option.{same_Some}
 use Rattle.cxl_message.specs.declared.events.Event.{Event}
+use Rattle.cxl_message.specs.declared.identifiers.Bytes64.{Bytes64}
+use Rattle.cxl_message.specs.declared.identifiers.Line.{Line}
 use Rattle.cxl_message.specs.Lists.{below}
 use Rattle.cxl_message.specs.Setup.{Configuration, IsWithinLimits}
 use Rattle.coherence_model.specs.Fitting.{is_device}
 use Rattle.coherence_model.specs.Next.{channels, next_device_acts, next_host_acts, next_steps, next_takes}
-use Rattle.coherence_model.specs.Runs.{is_allowed}
+use Rattle.coherence_model.specs.Runs.{IsRun, is_allowed}
 use Rattle.coherence_model.specs.Traces.{device}
 use Rattle.bound_laws.proofs.Joined.{each_below}
 use Rattle.step_laws.proofs.Laws.{next_steps_are_allowed}
@@ -41,7 +43,12 @@ test_at p [] k x all at = cc
 test_at p (y ∷ xs) zero x all at = subst (λ z. IsTrue (p z)) (same_Some y x at) (and_parts (p y) (list_all p xs) all).0
 test_at p (y ∷ xs) (suc k) x all at = test_at p xs k x (and_parts (p y) (list_all p xs) all).1 at
 
-pub next_steps_are_answered : NextStepsAreAnswered
-next_steps_are_answered setup opening limits t run k e at =
-    allowed_is_emitted setup opening t e
+-- the next step of a number is allowed
+pub next_is_allowed :
+    (setup : Configuration) (opening : List (Line × Bytes64)) → IsWithinLimits setup → (t : List Event) → IsRun setup opening t → (k : ℕ) (e : Event)
+    → slice_get (next_steps setup opening t) k ≡ Some e → IsTrue (is_allowed setup opening t e)
+next_is_allowed setup opening limits t run k e at =
     (and_parts (is_allowed setup opening t e) _ (test_at _ (next_steps setup opening t) k e (next_steps_are_allowed setup opening limits t run) at)).0
+
+pub next_steps_are_answered : NextStepsAreAnswered
+next_steps_are_answered setup opening limits t run k e at = allowed_is_emitted setup opening t e (next_is_allowed setup opening limits t run k e at)
