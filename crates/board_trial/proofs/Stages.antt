@@ -4,21 +4,23 @@ use Rattle.std.specs.Prelude.{◌==◌}
 use Rattle.std.specs.List.Sorted.{IsPermutation}
 use Rattle.std.proofs.lemmas.List.Sorted.{IsPermutation-refl}
 use Rattle.cxl_message.specs.declared.events.Event.{Event}
+use Rattle.cxl_message.specs.declared.identifiers.Bytes64.{Bytes64}
+use Rattle.cxl_message.specs.declared.identifiers.Line.{Line}
 use Rattle.cxl_message.specs.Lists.{below}
 use Rattle.cxl_message.specs.Setup.{Configuration}
 use Rattle.atomic_table.specs.Seated.{TableId}
 use Rattle.coherence_model.specs.Traces.{device, events_of, numbered_events_of}
+use Rattle.coherence_lemmas.proofs.OwnEvents.{events_of-own}
 use Rattle.run_laws.proofs.Numbers.{numbered_are_own}
 use Rattle.run_laws.proofs.OwnEvents.{is_other, others_leave_numbers}
 use Rattle.std.proofs.lemmas.Bool.{and_from}
 use Rattle.fabric_rule.specs.Fronts.{HasAllOf}
 use Rattle.fabric_rule.specs.Values.{BoardValue, HasOneOfEach, NoteValue, SeatValue, agents_of, mine, new_seats}
-use Rattle.machine.specs.MachineRecord.{MachineRecord}
-use Rattle.board_trial.specs.Trial.{FrontValue, IsFront, IsStage, MayMark, SitsBy}
-
--- a seat that has seen the whole run has all that the run has of it
-pub has_all_here : (g : ℕ) (s t : List Event) → s ≡ t → HasAllOf g s t
-has_all_here g s t same = record { front = ([], sym same); mine = ap (numbered_events_of g) (sym same) }
+use Rattle.host_home.specs.Contract.{StandsFor as HostStandsFor}
+use Rattle.host_tables.specs.Agent.{AgentRecord}
+use Rattle.machine.specs.Stands.{MachineRecord, StandsFor}
+use Rattle.board_trial.specs.declared.host.Host.{Host}
+use Rattle.board_trial.specs.Trial.{FrontValue, IsFront, IsStage, MayMark, ShowsOwn, SitsBy}
 
 -- another agent's event leaves a seat all that the run has of it
 pub sits_on : (f f' : FrontValue) (g : ℕ) (s : SeatValue) (e : Event) → (e.agent ≡ g → ⊥) → f'.board ≡ f.board → f'.seen ≡ e ∷ f.seen → SitsBy f g s → SitsBy f' g s
@@ -59,50 +61,119 @@ same_own f g s sits =
     ∙ numbered_are_own g s.seen
     ∙ ap (λ a. events_of a s.seen) (sym sits.agent)
 
+-- the agent of the event's seat stands for the seat's own events past the event too
+pub shows_past :
+    (f f' : FrontValue) (s s' : SeatValue) (e : Event) (a : AgentRecord) → f'.board ≡ f.board → f'.seen ≡ e ∷ f.seen → SitsBy f e.agent s → SitsBy f' e.agent s'
+    → HostStandsFor a f.board.setup s.agent (e ∷ events_of s.agent s.seen) → ShowsOwn f'.board a s'
+shows_past f f' s s' e a board seen sits sits' stands =
+    let agent : s'.agent ≡ s.agent = sits'.agent ∙ sym sits.agent in
+    let own : events_of s.agent s'.seen ≡ e ∷ events_of s.agent s.seen =
+    ap (λ n. events_of n s'.seen) (sym agent)
+    ∙ sym (same_own f' e.agent s' sits')
+    ∙ ap (events_of s'.agent) seen
+    ∙ events_of-own s'.agent e f.seen (sym sits'.agent)
+    ∙ ap (λ n. e ∷ events_of n f.seen) agent
+    ∙ ap (λ es. e ∷ es) (same_own f e.agent s sits) in
+    subst (λ b. ShowsOwn b a s') (sym board)
+    (subst (λ n. HostStandsFor a f.board.setup n (events_of n s'.seen)) (sym agent) (subst (HostStandsFor a f.board.setup s.agent) (sym own) stands))
+
+-- a seat that has seen nothing
+abbrev new_seat : TableId → ℕ → SeatValue
+new_seat id g = record { board = id; agent = g; seen = [] }
+
 -- the seats of a board of two hosts
-pub three_seats :
-    (id : TableId) (setup : Configuration) → setup.hosts ≡ 2
-    → new_seats id (agents_of setup) ≡ record { board = id; agent = 0; seen = [] } ∷ record { board = id; agent = 1; seen = [] } ∷ record { board = id; agent = device; seen = [] } ∷ []
+three_seats : (id : TableId) (setup : Configuration) → setup.hosts ≡ 2 → new_seats id (agents_of setup) ≡ new_seat id 0 ∷ new_seat id 1 ∷ new_seat id device ∷ []
 three_seats id setup two = ap (λ n. new_seats id (below n ++ device ∷ [])) two
 
+-- the front of a board with no event
+pub new_front :
+    (b : BoardValue) (room : ℕ) (m : MachineRecord) (n : NoteValue) (setup : Configuration) (opening : List (Line × Bytes64)) (s t d : SeatValue) → setup.hosts ≡ 2
+    → b.setup ≡ setup → b.opening ≡ opening → b.room ≡ room → new_seats b.id (agents_of setup) ≡ s ∷ t ∷ d ∷ [] → n.board ≡ d.board → n.seen ≡ d.seen → StandsFor m setup opening []
+    → IsFront b room m n 0
+new_front b room m n setup opening s t d two setups openings rooms seats board seen stands =
+    let three = sym seats ∙ three_seats b.id setup two in
+    let last : d ≡ new_seat b.id device = cc three in
+    let none : n.seen ≡ [] = seen ∙ ap (λ x. x.seen) last in
+    record {
+      room_is = rooms;
+      note = board ∙ ap (λ x. x.board) last;
+      count_is = ap length none;
+      machine = subst (λ x. StandsFor m x b.opening n.seen) (sym setups)
+          (subst (λ x. StandsFor m setup x n.seen) (sym openings) (subst (StandsFor m setup opening) (sym none) stands));
+    }
+
 -- a new seat has all that a run without events has of it
-pub sits_new : (f : FrontValue) (g : ℕ) (s : SeatValue) → f.seen ≡ [] → s ≡ record { board = f.board.id; agent = g; seen = [] } → SitsBy f g s
+sits_new : (f : FrontValue) (g : ℕ) (s : SeatValue) → f.seen ≡ [] → s ≡ new_seat f.board.id g → SitsBy f g s
 sits_new f g s none is =
+    let same : f.seen ≡ s.seen = none ∙ sym (ap (λ x. x.seen) is) in
     record {
       board = ap (λ x. x.board) is;
       agent = ap (λ x. x.agent) is;
-      own = has_all_here g s.seen f.seen (ap (λ x. x.seen) is ∙ sym none);
+      own = record { front = ([], same); mine = ap (numbered_events_of g) same };
+    }
+
+-- an agent that stands for no event stands for a new seat's
+shows_new :
+    (f : FrontValue) (setup : Configuration) (g : ℕ) (s : SeatValue) (a : AgentRecord) → f.board.setup ≡ setup → s ≡ new_seat f.board.id g → HostStandsFor a setup g []
+    → ShowsOwn f.board a s
+shows_new f setup g s a same is stands = subst (ShowsOwn f.board a) (sym is) (subst (λ x. HostStandsFor a x g []) (sym same) stands)
+
+-- the stage of a board that has no event yet
+pub opened_stage :
+    (f : FrontValue) (setup : Configuration) (h k : Host) (d : SeatValue) → setup.hosts ≡ 2 → f.board.setup ≡ setup → f.seen ≡ []
+    → new_seats f.board.id (agents_of setup) ≡ h.seat ∷ k.seat ∷ d ∷ [] → HostStandsFor h.agent setup 0 [] → HostStandsFor k.agent setup 1 [] → IsStage f h k d
+opened_stage f setup h k d two same none seats first_stands second_stands =
+    let three = sym seats ∙ three_seats f.board.id setup two in
+    let first : h.seat ≡ new_seat f.board.id 0 = cc three in
+    let second : k.seat ≡ new_seat f.board.id 1 = cc three in
+    let third : d ≡ new_seat f.board.id device = cc three in
+    record {
+      hosts = ap (λ x. x.hosts) same ∙ two;
+      first = sits_new f 0 h.seat none first;
+      second = sits_new f 1 k.seat none second;
+      third = sits_new f device d none third;
+      first_shows = shows_new f setup 0 h.seat h.agent same first first_stands;
+      second_shows = shows_new f setup 1 k.seat k.agent same second second_stands;
     }
 
 -- the stage after an event of each of its seats
 pub first_advanced :
-    (f f' : FrontValue) (s t d : SeatValue) (e : Event) → e.agent ≡ 0 → IsStage f s t d → f'.board ≡ f.board → f'.seen ≡ e ∷ f.seen → (s' : SeatValue) → SitsBy f' e.agent s' → IsStage f' s' t d
-first_advanced f f' s t d e g stage board seen s' sits =
+    (f f' : FrontValue) (h k : Host) (d : SeatValue) (e : Event) → e.agent ≡ 0 → IsStage f h k d → f'.board ≡ f.board → f'.seen ≡ e ∷ f.seen
+    → (h' : Host) → SitsBy f' e.agent h'.seat → ShowsOwn f'.board h'.agent h'.seat → IsStage f' h' k d
+first_advanced f f' h k d e g stage board seen h' sits shows =
     record {
       hosts = ap (λ b. b.setup.hosts) board ∙ stage.hosts;
-      first = subst (λ n. SitsBy f' n s') g sits;
-      second = sits_on f f' 1 t e (λ is. absurd (omega (arith, g, is))) board seen stage.second;
+      first = subst (λ n. SitsBy f' n h'.seat) g sits;
+      second = sits_on f f' 1 k.seat e (λ is. absurd (omega (arith, g, is))) board seen stage.second;
       third = sits_on f f' device d e (λ is. absurd (omega (arith, g, is))) board seen stage.third;
+      first_shows = shows;
+      second_shows = subst (λ b. ShowsOwn b k.agent k.seat) (sym board) stage.second_shows;
     }
 
 pub second_advanced :
-    (f f' : FrontValue) (s t d : SeatValue) (e : Event) → e.agent ≡ 1 → IsStage f s t d → f'.board ≡ f.board → f'.seen ≡ e ∷ f.seen → (t' : SeatValue) → SitsBy f' e.agent t' → IsStage f' s t' d
-second_advanced f f' s t d e g stage board seen t' sits =
+    (f f' : FrontValue) (h k : Host) (d : SeatValue) (e : Event) → e.agent ≡ 1 → IsStage f h k d → f'.board ≡ f.board → f'.seen ≡ e ∷ f.seen
+    → (k' : Host) → SitsBy f' e.agent k'.seat → ShowsOwn f'.board k'.agent k'.seat → IsStage f' h k' d
+second_advanced f f' h k d e g stage board seen k' sits shows =
     record {
       hosts = ap (λ b. b.setup.hosts) board ∙ stage.hosts;
-      first = sits_on f f' 0 s e (λ is. absurd (omega (arith, g, is))) board seen stage.first;
-      second = subst (λ n. SitsBy f' n t') g sits;
+      first = sits_on f f' 0 h.seat e (λ is. absurd (omega (arith, g, is))) board seen stage.first;
+      second = subst (λ n. SitsBy f' n k'.seat) g sits;
       third = sits_on f f' device d e (λ is. absurd (omega (arith, g, is))) board seen stage.third;
+      first_shows = subst (λ b. ShowsOwn b h.agent h.seat) (sym board) stage.first_shows;
+      second_shows = shows;
     }
 
 pub third_advanced :
-    (f f' : FrontValue) (s t d : SeatValue) (e : Event) → e.agent ≡ device → IsStage f s t d → f'.board ≡ f.board → f'.seen ≡ e ∷ f.seen → (d' : SeatValue) → SitsBy f' e.agent d' → IsStage f' s t d'
-third_advanced f f' s t d e g stage board seen d' sits =
+    (f f' : FrontValue) (h k : Host) (d : SeatValue) (e : Event) → e.agent ≡ device → IsStage f h k d → f'.board ≡ f.board → f'.seen ≡ e ∷ f.seen
+    → (d' : SeatValue) → SitsBy f' e.agent d' → IsStage f' h k d'
+third_advanced f f' h k d e g stage board seen d' sits =
     record {
       hosts = ap (λ b. b.setup.hosts) board ∙ stage.hosts;
-      first = sits_on f f' 0 s e (λ is. absurd (omega (arith, g, is))) board seen stage.first;
-      second = sits_on f f' 1 t e (λ is. absurd (omega (arith, g, is))) board seen stage.second;
+      first = sits_on f f' 0 h.seat e (λ is. absurd (omega (arith, g, is))) board seen stage.first;
+      second = sits_on f f' 1 k.seat e (λ is. absurd (omega (arith, g, is))) board seen stage.second;
       third = subst (λ n. SitsBy f' n d') g sits;
+      first_shows = subst (λ b. ShowsOwn b h.agent h.seat) (sym board) stage.first_shows;
+      second_shows = subst (λ b. ShowsOwn b k.agent k.seat) (sym board) stage.second_shows;
     }
 
 -- three seats are one of each agent, where there are two hosts
@@ -112,14 +183,11 @@ one_of_each setup s t d two first second third =
     let seats : map (λ u. u.agent) (s ∷ t ∷ d ∷ []) ≡ 0 ∷ 1 ∷ device ∷ [] = cc (first, second, third) in
     subst (λ xs. IsPermutation (agents_of setup) xs) (agents ∙ sym seats) (IsPermutation-refl (agents_of setup))
 
--- both machines of a front show what a seat of it may mark
+-- a seat by a front may mark so many operations where its host's agent shows them and there is room
 pub may_mark :
-    (f : FrontValue) (b : BoardValue) (room : ℕ) (m m' : MachineRecord) (n : NoteValue) (count : ℕ) → record { board = b; seen = n.seen } ≡ f → IsFront b room m m' n count
-    → (g : ℕ) (s : SeatValue) → SitsBy f g s → (more : ℕ) → length f.seen + more ≤ f.board.room → MayMark b m s more × MayMark b m' s more
-may_mark f b room m m' n count is front g s sits more fits =
-    let here : SitsBy (record { board = b; seen = n.seen }) g s = subst (λ x. SitsBy x g s) (sym is) sits in
-    let space : length n.seen + more ≤ b.room = subst (λ x. length x.seen + more ≤ x.board.room) (sym is) fits in
-    let most = mine_at_most (record { board = b; seen = n.seen }) g s here in
-    let enough : length (mine s) + more ≤ b.room = omega (arith, most, space) in
-    let own = same_own (record { board = b; seen = n.seen }) g s here in
-    ((here.board, record { t = n.seen; stands = front.machine; own = own }, enough), (here.board, record { t = n.seen; stands = front.other; own = own }, enough))
+    (f : FrontValue) (b : BoardValue) → b ≡ f.board → (g : ℕ) (a : AgentRecord) (s : SeatValue) → SitsBy f g s → ShowsOwn f.board a s
+    → (more : ℕ) → length f.seen + more ≤ f.board.room → MayMark b a s more
+may_mark f b same g a s sits shows more fits =
+    let most = mine_at_most f g s sits in
+    let enough : length (mine s) + more ≤ f.board.room = omega (arith, most, fits) in
+    subst (λ x. MayMark x a s more) (sym same) (sits.board, shows, enough)

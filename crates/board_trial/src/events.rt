@@ -1,8 +1,9 @@
-// Events of hosts that load lines of their own: host 0 line 0, and host 1 line 1.
-ghost use Rattle.std.specs.Prelude.{IsTrue, ◌≡◌};
+// Loads of hosts that load lines of their own: host 0 line 0, and host 1 line 1.
+ghost use Rattle.std.specs.Prelude.{IsTrue};
 ghost use Rattle.board_trial.specs.Trial.{is_operation};
 
-use cxl_message::{Bytes64, Cause, Commit, Event, Line, Op, Sends};
+use cxl_message::{Bytes64, Cause, Commit, Line, Op, Sends};
+use host_home::Emitted;
 
 pub const ZEROS: Bytes64 = Bytes64([0; 64]);
 
@@ -31,14 +32,9 @@ pub fn loaded(host: u8, index: u32) -> Commit {
     }
 }
 
-/// The event of a load that hits.
-pub fn hit(host: u8, index: u32) -> Event
-    ensures agent { result.agent ≡ host }
-    ensures operation { IsTrue (is_operation result.cause) }
-{
-    Event {
-        agent: host,
-        cause: load(host, index),
+/// What that operation sends and commits where it hits.
+pub fn hit(host: u8, index: u32) -> Emitted {
+    Emitted {
         sends: Sends::Nothing,
         commit: Some(loaded(host, index)),
     }

@@ -1,9 +1,13 @@
-// Trials of the board: the machine shows that an event is allowed, and the seats of two hosts and their device mark it, from one
-// thread and from two. No other crate stands on this one.
+//! The board of `fabric_rule` on trial: seats of two hosts and their device mark events, from one thread and from two. That each
+//! event is allowed is shown by a machine that stands for the whole run, or by the agent of the host that makes it, which stands
+//! for the host's own events.
+//!
+//! All of it is the project's own and no statement about CXL 3.1. No crate stands on this one.
 #![tactic(auto)]
 
 mod events;
 mod front;
+mod host;
 mod marks;
 mod stage;
 #[cfg(test)]

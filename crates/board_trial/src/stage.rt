@@ -1,35 +1,41 @@
-// A board of two hosts with its seats in one hand, until two threads take a host each.
-ghost use Rattle.std.specs.Prelude.{IfOk, IsTrue, [], length, vec_len, ◌+◌, ◌∷◌, ◌≡◌, ◌≤◌};
-ghost use Rattle.fabric_rule.specs.Values.{mine};
-ghost use Rattle.board_trial.specs.Trial.{MayMark, ShowsOwn, is_operation};
+// A board of two hosts with its agents and seats in one hand, until two threads take a host each.
+ghost use Rattle.std.specs.Prelude.{IfOk, IsTrue, OnOk, [], length, ◌+◌, ◌∷◌, ◌≡◌, ◌≤◌};
+ghost use Rattle.fabric_rule.specs.Values.{HaveOneRun, mine};
+ghost use Rattle.host_home.specs.Contract.{StandsFor};
+ghost use Rattle.board_trial.specs.Trial.{ClosesWith, HasMade, IsClosed, MayMark, ShowsOwn, is_operation};
 
-use crate::events::hit;
+use crate::events::{hit, load};
 use crate::front::Front;
+use crate::host::Host;
 use crate::marks::{Refused, mark_own};
-use cxl_message::{Event, Opening, Setup};
+use cxl_message::{Cause, Event, Setup};
 use fabric_rule::{AgentSeat, Board};
-use machine::Machine;
+use host_home::HostAgent;
 use std::alloc::{AllocError, Global};
 use std::marker::Model;
 use std::thread::{Threads, join};
 
-/// A host's seat, with the numbers of its loads.
-type Hits<const N: usize> = Result<(AgentSeat, [u64; N]), Refused>;
+/// The numbers of the operations that a host has marked, with its seat.
+type Made<const N: usize> = Result<([u64; N], AgentSeat), Refused>;
 
-/// What two threads did: the numbers of the loads of each, in the order in which it made them, and how many events the run has.
+/// What two hosts did: the numbers of the operations of each, in the order in which it made them, and how many events the run has
+/// (own rule).
 #[derive(Drop)]
 pub struct Race<const N: usize> {
+    /// The numbers of host 0's operations, ascending.
     pub first: [u64; N],
+    /// The numbers of host 1's operations, ascending.
     pub second: [u64; N],
+    /// How many events the closed board's run has.
     pub events: u64,
 }
 
-/// A board of two hosts, with its seats.
+/// A board of two hosts, with the hosts' agents and all seats (own rule).
 #[derive(Drop)]
 pub struct Stage {
     front: Front,
-    first: AgentSeat,
-    second: AgentSeat,
+    first: Host,
+    second: Host,
     device: AgentSeat,
 }
 
@@ -47,25 +53,33 @@ impl Stage {
     /// A stage with no event. It is refused where the room is none that a board can have, or for want of memory.
     pub fn open(alloc: Global, setup: &Setup, room: u32) -> Result<Stage, Refused>
         requires { setup.now.hosts ≡ 2 }
+        ensures setup { IfOk result (λ s. s.board.setup ≡ setup.now) }
+        ensures room { IfOk result (λ s. s.board.room ≡ room) }
+        ensures seen { IfOk result (λ s. s.seen ≡ []) }
     {
         if room == 0 || room > 200_000 {
             return Err(Refused::NoRoom);
         }
-        let opening = Opening::new(alloc);
-        let (board, seats) = Board::open(alloc, setup, &opening, room)?;
-        let (first, second, mut device) = three_of(seats);
-        let note = device.note(&board);
-        let front = Front::open(alloc, setup, &opening, board, room, note)?;
+        let (one, two) = agents_of_both(alloc, setup)?;
+        let (front, (first, second, device)) = Front::open(alloc, setup, room)?;
         Ok(Stage {
             front,
-            first,
-            second,
+            first: Host {
+                agent: one,
+                seat: first,
+            },
+            second: Host {
+                agent: two,
+                seat: second,
+            },
             device,
         })
     }
 
-    /// The event's seat marks it as the next one.
-    pub fn play(self, event: &Event) -> Result<Stage, Refused> {
+    /// The event's seat marks it as the next one, and where it is a host's, the host's agent makes it too.
+    pub fn play(self, event: &Event) -> Result<Stage, Refused>
+        ensures { IfOk result (λ s. (s.board ≡ self.board) × (s.seen ≡ event.now ∷ self.seen)) }
+    {
         let Stage {
             front,
             mut first,
@@ -74,7 +88,7 @@ impl Stage {
         } = self;
         match event.agent {
             0 => {
-                let front = front.advance(&mut first, event)?;
+                let front = first.play(front, event)?;
                 Ok(Stage {
                     front,
                     first,
@@ -83,7 +97,7 @@ impl Stage {
                 })
             }
             1 => {
-                let front = front.advance(&mut second, event)?;
+                let front = second.play(front, event)?;
                 Ok(Stage {
                     front,
                     first,
@@ -104,25 +118,22 @@ impl Stage {
         }
     }
 
-    /// The hosts mark an operation each. Neither knows of the other's.
-    pub fn mark_apart(self, one: &Event, two: &Event) -> Result<(u64, u64), Refused>
-        requires one { (one.now.agent ≡ 0) × IsTrue (is_operation one.now.cause) }
-        requires two { (two.now.agent ≡ 1) × IsTrue (is_operation two.now.cause) }
+    /// The hosts mark an operation each. Neither knows of the other's. Then the board is closed.
+    pub fn mark_apart(self, alloc: Global, one: &Cause, two: &Cause) -> Result<Race<1>, Refused>
+        requires one { IsTrue (is_operation one.now) }
+        requires two { IsTrue (is_operation two.now) }
+        ensures { IfOk result (λ r. IsClosed self r.first r.second r.events) }
     {
         let Stage {
             front,
             first,
             second,
-            device: _,
+            device,
         } = self;
-        front.has_room(1)?;
-        let Front {
-            board,
-            machine,
-            other,
-            ..
-        } = front;
-        mark_both(&board, machine, other, first, second, one, two)
+        let board = front.into_board(1)?;
+        let one = mark_one(&board, first, one);
+        let two = mark_one(&board, second, two);
+        closed(alloc, board, one, two, device)
     }
 
     /// Two threads mark N loads of a host each, which hit. Then the board is closed.
@@ -132,6 +143,7 @@ impl Stage {
         alloc: Global,
     ) -> Result<Race<N>, Refused>
         requires { N ≤ 200000 }
+        ensures { IfOk result (λ r. IsClosed self r.first r.second r.events) }
     {
         let Stage {
             front,
@@ -139,64 +151,63 @@ impl Stage {
             second,
             device,
         } = self;
-        front.has_room(N as u64)?;
-        let Front {
-            board,
-            machine,
-            other,
-            ..
-        } = front;
-        let (one, two) = mark_hits_of_both(rt, &board, machine, other, first, second);
-        let (first, first_numbers) = one?;
-        let (second, second_numbers) = two?;
-        let events = closed(alloc, board, first, second, device)?;
-        Ok(Race {
-            first: first_numbers,
-            second: second_numbers,
-            events,
-        })
+        let board = front.into_board(N as u64)?;
+        let (one, two) = mark_hits_of_both(rt, &board, first, second);
+        closed(alloc, board, one, two, device)
     }
 }
 
-/// The seats of a board of two hosts: the hosts, and then the device.
-fn three_of(mut seats: Vec<AgentSeat>) -> (AgentSeat, AgentSeat, AgentSeat)
-    requires { vec_len seats ≡ 3 }
-    ensures { seats.items ≡ result.0 ∷ result.1 ∷ result.2 ∷ [] }
+/// The home agents of both hosts, before any event.
+fn agents_of_both(alloc: Global, setup: &Setup) -> Result<(HostAgent, HostAgent), AllocError>
+    requires { setup.now.hosts ≡ 2 }
+    ensures first { IfOk result (λ r. StandsFor r.0 setup.now 0 []) }
+    ensures second { IfOk result (λ r. StandsFor r.1 setup.now 1 []) }
 {
-    let Some(device) = seats.pop() else {
-        unreachable!("there are three seats")
-    };
-    let Some(second) = seats.pop() else {
-        unreachable!("there are three seats")
-    };
-    let Some(first) = seats.pop() else {
-        unreachable!("there are three seats")
-    };
-    (first, second, device)
+    let first = HostAgent::open(alloc, setup, 0)?;
+    let second = HostAgent::open(alloc, setup, 1)?;
+    Ok((first, second))
 }
 
-/// Two hosts mark an operation each.
-fn mark_both(
-    board: &Board,
-    mut machine: Machine,
-    mut other: Machine,
-    mut first: AgentSeat,
-    mut second: AgentSeat,
-    one: &Event,
-    two: &Event,
-) -> Result<(u64, u64), Refused>
-    requires first { MayMark board.now machine first 1 }
-    requires second { MayMark board.now other second 1 }
-    requires one { (one.now.agent ≡ first.agent) × IsTrue (is_operation one.now.cause) }
-    requires two { (two.now.agent ≡ second.agent) × IsTrue (is_operation two.now.cause) }
+/// The host marks an operation.
+fn mark_one(board: &Board, host: Host, cause: &Cause) -> Made<1>
+    requires may { MayMark board.now host.agent host.seat 1 }
+    requires operation { IsTrue (is_operation cause.now) }
+    ensures { IfOk result (λ r. HasMade board.now host.seat r.0 r.1) }
 {
-    let number = mark_own(board, &mut machine, &mut first, one)?;
-    let next = mark_own(board, &mut other, &mut second, two)?;
-    Ok((number, next))
+    let Host {
+        mut agent,
+        mut seat,
+    } = host;
+    let number = mark_own(board, &mut agent, &mut seat, cause)?;
+    Ok(([number], seat))
+}
+
+/// Closes the board once both hosts have marked their operations.
+fn closed<const N: usize>(
+    alloc: Global,
+    board: Board,
+    one: Made<N>,
+    two: Made<N>,
+    device: AgentSeat,
+) -> Result<Race<N>, Refused>
+    requires hosts { board.setup.hosts ≡ 2 }
+    requires first { IfOk one (λ r. (r.1.board ≡ board.id) × (r.1.agent ≡ 0)) }
+    requires second { IfOk two (λ r. (r.1.board ≡ board.id) × (r.1.agent ≡ 1)) }
+    requires third { (device.board ≡ board.id) × (device.agent ≡ 16) }
+    ensures { IfOk result (λ r. ClosesWith board one.entry two.entry device r.first r.second r.events) }
+{
+    let (one, first) = one?;
+    let (two, second) = two?;
+    let events = close_with(alloc, board, first, second, device)?;
+    Ok(Race {
+        first: one,
+        second: two,
+        events,
+    })
 }
 
 /// Closes the board of two hosts with its three seats.
-fn closed(
+fn close_with(
     alloc: Global,
     board: Board,
     first: AgentSeat,
@@ -207,6 +218,7 @@ fn closed(
     requires first { (first.board ≡ board.id) × (first.agent ≡ 0) }
     requires second { (second.board ≡ board.id) × (second.agent ≡ 1) }
     requires third { (device.board ≡ board.id) × (device.agent ≡ 16) }
+    ensures { IfOk result (λ n. HaveOneRun board.setup board.opening n (first ∷ second ∷ device ∷ [])) }
 {
     let seats = listed(alloc, first, second, device)?;
     Ok(board.close(seats))
@@ -216,48 +228,65 @@ fn closed(
 fn mark_hits_of_both<const N: usize, R: Threads + Sync>(
     rt: &R,
     board: &Board,
-    machine: Machine,
-    other: Machine,
-    first: AgentSeat,
-    second: AgentSeat,
-) -> (Hits<N>, Hits<N>)
+    first: Host,
+    second: Host,
+) -> (Made<N>, Made<N>)
     requires loads { N ≤ 200000 }
-    requires first { MayMark board.now machine first N }
-    requires second { MayMark board.now other second N }
-    ensures first { IfOk result.0 (λ r. (r.0.board ≡ board.now.id) × (r.0.agent ≡ first.agent)) }
-    ensures second { IfOk result.1 (λ r. (r.0.board ≡ board.now.id) × (r.0.agent ≡ second.agent)) }
+    requires first { MayMark board.now first.agent first.seat N }
+    requires second { MayMark board.now second.agent second.seat N }
+    ensures first { IfOk result.0 (λ r. HasMade board.now first.seat r.0 r.1) }
+    ensures second { IfOk result.1 (λ r. HasMade board.now second.seat r.0 r.1) }
 {
     join(
         rt,
-        move || -> Hits<N>
-            requires { (N ≤ 200000) × (first.board ≡ board.now.id) × ShowsOwn board.now machine first × (length (mine first) + N ≤ board.now.room) }
-            ensures { IfOk result (λ r. (r.0.board ≡ board.entry.now.id) × (r.0.agent ≡ first.agent)) }
-        { mark_hits(board, machine, first) },
-        move || -> Hits<N>
-            requires { (N ≤ 200000) × (second.board ≡ board.now.id) × ShowsOwn board.now other second × (length (mine second) + N ≤ board.now.room) }
-            ensures { IfOk result (λ r. (r.0.board ≡ board.entry.now.id) × (r.0.agent ≡ second.agent)) }
-        { mark_hits(board, other, second) },
+        move || -> Made<N>
+            requires { (N ≤ 200000) × MayMark board.now first.agent first.seat N }
+            ensures { IfOk result (λ r. HasMade board.entry.now first.seat r.0 r.1) }
+        { mark_hits(board, first) },
+        move || -> Made<N>
+            requires { (N ≤ 200000) × MayMark board.now second.agent second.seat N }
+            ensures { IfOk result (λ r. HasMade board.entry.now second.seat r.0 r.1) }
+        { mark_hits(board, second) },
     )
 }
 
-/// Marks loads that hit, one after another, and gives their numbers.
-fn mark_hits<const N: usize>(board: &Board, mut machine: Machine, mut seat: AgentSeat) -> Hits<N>
+/// Marks loads, one after another, and gives their numbers. A load that doesn't hit is refused.
+fn mark_hits<const N: usize>(board: &Board, host: Host) -> Made<N>
     requires loads { N ≤ 200000 }
-    requires board { seat.board ≡ board.now.id }
-    requires shows { ShowsOwn board.now machine seat }
-    requires room { length (mine seat) + N ≤ board.now.room }
-    ensures board { IfOk result (λ r. r.0.board ≡ board.now.id) }
-    ensures agent { IfOk result (λ r. r.0.agent ≡ seat.agent) }
+    requires may { MayMark board.now host.agent host.seat N }
+    ensures { IfOk result (λ r. HasMade board.now host.seat r.0 r.1) }
 {
-    let host = seat.agent();
+    let Host {
+        mut agent,
+        mut seat,
+    } = host;
     let mut numbers = [0; N];
     let mut index = 1;
     for place in 0..N {
-        let load = hit(host, index);
-        numbers[place] = mark_own(board, &mut machine, &mut seat, &load)?;
+        numbers[place] = mark_hit(board, &mut agent, &mut seat, index)?;
         index += 1;
     }
-    Ok((seat, numbers))
+    Ok((numbers, seat))
+}
+
+/// Marks the host's load of this index, where it hits.
+fn mark_hit(
+    board: &Board,
+    agent: &mut HostAgent,
+    seat: &mut AgentSeat,
+    index: u32,
+) -> Result<u64, Refused>
+    requires { MayMark board.now agent.old seat.old 1 }
+    ensures shows { OnOk result (ShowsOwn board.now agent.new seat.new) }
+    ensures made { IfOk result (λ n. HasMade board.now seat.old (n ∷ []) seat.new) }
+    ensures room { OnOk result (length (mine seat.new) ≡ length (mine seat.old) + 1) }
+{
+    let number = seat.agent();
+    let cause = load(number, index);
+    if agent.would(&cause)? != hit(number, index) {
+        return Err(Refused::OtherEvent);
+    }
+    mark_own(board, agent, seat, &cause)
 }
 
 /// The three seats in a list.

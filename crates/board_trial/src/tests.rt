@@ -1,11 +1,9 @@
 // The first events of two hosts that don't know of each other, and two loads with 2,000 more from two threads.
-ghost use Rattle.std.specs.Prelude.{IsTrue, ◌≡◌};
-ghost use Rattle.board_trial.specs.Trial.{is_operation};
 
 use crate::events::{ZEROS, load, loaded};
 use crate::stage::Stage;
 use cxl_message::{
-    Act, Cause, Event, Line, Message, Meta, NdrOp, Out, ReqOp, Sends, Setup, SnpType, Tag,
+    Act, Cause, Event, Line, Message, Meta, NdrOp, Op, Out, ReqOp, Sends, Setup, SnpType, Tag,
 };
 use std::process::Abort;
 use std::test::Fail;
@@ -19,9 +17,7 @@ fn opened(rt: &(impl Abort + AllocGlobal), room: u32) -> Result<Stage, Fail> {
     Ok(Stage::open(rt.alloc(), &setup, room)?)
 }
 
-fn plain(agent: u8, cause: Cause) -> Event
-    ensures { (result.agent ≡ agent) × (result.cause ≡ cause) }
-{
+fn plain(agent: u8, cause: Cause) -> Event {
     Event {
         agent,
         cause,
@@ -59,9 +55,7 @@ fn data() -> Message {
 }
 
 /// A host begins to load its own line: it sends the request.
-fn begins(host: u8) -> Event
-    ensures { (result.agent ≡ host) × IsTrue (is_operation result.cause) }
-{
+fn begins(host: u8) -> Event {
     Event {
         sends: Sends::One(out(host, read(host))),
         ..plain(host, load(host, 0))
@@ -92,8 +86,14 @@ fn one_load(host: u8) -> [Event; 6] {
 #[test]
 fn hosts_mark_their_first_loads_apart(rt: HostRuntime) -> Result<(), Fail> {
     let stage = opened(&rt, 10)?;
-    let numbers = stage.mark_apart(&begins(0), &begins(1))?;
-    assert_eq!(rt; numbers, (0, 1));
+    let same = Cause::Op {
+        stream: 1,
+        index: 0,
+        op: Op::Load { line: Line(0) },
+    };
+    let apart = stage.mark_apart(rt.alloc(), &load(0, 0), &same)?;
+    assert_eq!(rt; (apart.first, apart.second), ([0], [1]));
+    assert_eq!(rt; apart.events, 2);
     Ok(())
 }
 

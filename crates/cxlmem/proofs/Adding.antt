@@ -29,5 +29,5 @@ driving_adds script (suc n) picks t =
     ]
 
 -- a trace on the way goes on to the driven one
-pub goes_to_driven : (script : ScriptValue) (t : List Event) → IsOnTheWay script [] t → GoesTo t (driven_trace script)
-goes_to_driven script t way = subst (GoesTo t) way.comes (driving_adds script (event_bound script - length t) [] t)
+pub goes_to_driven : (script : ScriptValue) (picks : List ℕ) (t : List Event) → IsOnTheWay script picks t → GoesTo t (driven_trace script)
+goes_to_driven script picks t way = subst (GoesTo t) way.comes (driving_adds script (event_bound script - length t) picks t)

@@ -1,9 +1,10 @@
 pub mod Adding
+pub mod Choosing
 pub mod Counts
+pub mod Drivable
 pub mod Fronts
 pub mod Loops
 pub mod Openings
-pub mod PlainTests
 pub mod Scans
 pub mod ShortTags
 pub mod Statuses

@@ -1,9 +1,10 @@
 -- Scans over the streams of a script.
-use Rattle.std.proofs.Common.{Bool, List, Option, Some, None, [], ap, arith, drop, false, get_or, length, sym, true, ℕ, ◌&&◌, ◌++◌, ◌+◌, ◌<◌, ◌≡◌, ◌≢◌, ◌≤◌, ◌∙◌, ◌∷◌, refl}
+use Rattle.std.proofs.Common.{Bool, List, Option, Some, None, [], ap, arith, drop, false, get_or, length, sym, true, ℕ, ◌&&◌, ◌++◌, ◌+◌, ◌-◌, ◌<◌, ◌≡◌, ◌≢◌, ◌≤◌, ◌∙◌, ◌∷◌, refl, zero, suc}
 use Rattle.std.specs.List.{list_all}
-use Rattle.std.specs.Prelude.{flat_map, option_to_list, slice_get}
-use Rattle.std.proofs.lemmas.Bool.{eq-eqb, ne_eqb}
+use Rattle.std.specs.Prelude.{flat_map, is_some, option_to_list, slice_get}
+use Rattle.std.proofs.lemmas.Bool.{eq-eqb, false≢true, ne_eqb}
 use Rattle.std.proofs.lemmas.List.{drop_all, drop_more}
+use Rattle.std.proofs.lemmas.List.Concat.{flat_map-cons}
 use Rattle.std.proofs.lemmas.Option.{get_or_from_slice_get, slice_get-get_or, slice_get_within}
 use Rattle.cxl_message.specs.declared.events.Event.{Event}
 use Rattle.cxl_message.specs.declared.events.Op.{Op}
@@ -11,7 +12,7 @@ use Rattle.cxl_message.specs.Script.{ScriptValue}
 use Rattle.coherence_model.specs.Choices.{Stream, is_all_begun, streams_from, streams_of}
 use Rattle.coherence_model.specs.Streams.{begun_count}
 use Rattle.coherence_model.specs.Traces.{events_of}
-use Rattle.plain_laws.specs.Laws.{next_offer}
+use Rattle.choice_laws.specs.Answered.{next_answer}
 use Rattle.commit_laws.proofs.Streams.{stream_at}
 use Rattle.cxlmem.specs.Driver.{IsCounted, IsNext}
 
@@ -79,7 +80,7 @@ begun_stops script counts t k ops counted there other before =
     all_stops (is_all_begun t) (streams_of script) k (record { number = k; host = there.host; operations = ops }) (list_all (is_all_begun t) (streams_of script)) there.at
     (ne_eqb (begun_count k (events_of there.host t)) (length ops) (λ same. other (counted k there.host there.is ∙ same))) before
 
--- ---- the first offer
+-- ---- what streams are offered
 
 -- the stream is next
 pub next_there :
@@ -87,52 +88,92 @@ pub next_there :
     → IsNext script (record { number = k; host = there.host; operations = ops }) k (get_or counts k 0) t
 next_there script counts t k ops counted list there = record { number = refl; host = there.is; operations = list; counted = counted k there.host there.is }
 
-first_of : (f : Stream → List Event) (ys : List Stream) (k : ℕ) (y : Stream) (o : Option Event) (first : Option Event) → slice_get ys k ≡ Some y → option_to_list o ≡ f y
-    → slice_get (flat_map f (drop k ys)) 0 ≡ first → slice_get (option_to_list o ++ flat_map f (drop (k + 1) ys)) 0 ≡ first
-first_of f ys k y o first found same before =
-    ap (λ (xs : List Event). slice_get (xs ++ flat_map f (drop (k + 1) ys)) 0) same ∙ ap (λ (zs : List Stream). slice_get (flat_map f zs) 0) (sym (left_at ys k y found)) ∙ before
-
--- a stream is offered nothing
-pub offer_more : (f : Stream → List Event) (ys : List Stream) (k : ℕ) (y : Stream) (o first : Option Event) → slice_get ys k ≡ Some y → o ≡ None → option_to_list o ≡ f y
-    → slice_get (flat_map f (drop k ys)) 0 ≡ first → slice_get (flat_map f (drop (k + 1) ys)) 0 ≡ first
-offer_more f ys k y o first found none same before =
-    ap (λ (p : Option Event). slice_get (option_to_list p ++ flat_map f (drop (k + 1) ys)) 0) (sym none) ∙ first_of f ys k y o first found same before
-
--- a stream is offered an event
-pub offer_stops : (f : Stream → List Event) (ys : List Stream) (k : ℕ) (y : Stream) (o first : Option Event) (e : Event) → slice_get ys k ≡ Some y → o ≡ Some e → option_to_list o ≡ f y
-    → slice_get (flat_map f (drop k ys)) 0 ≡ first → Some e ≡ first
-offer_stops f ys k y o first e found some same before =
-    ap (λ (p : Option Event). slice_get (option_to_list p ++ flat_map f (drop (k + 1) ys)) 0) (sym some) ∙ first_of f ys k y o first found same before
-
--- no stream is left
-pub offers_end : (f : Stream → List Event) (ys : List Stream) (k : ℕ) (first : Option Event) → length ys ≤ k → slice_get (flat_map f (drop k ys)) 0 ≡ first → None ≡ first
-offers_end f ys k first le before = ap (λ (zs : List Stream). slice_get (flat_map f zs) 0) (sym (drop_all k ys le)) ∙ before
-
--- ---- what a stream of a script is offered
-
 list_there : (script : ScriptValue) (k : ℕ) → length script.operations ≡ length script.setup.streams → k < length script.setup.streams → slice_get script.operations k ≡ Some (get_or script.operations k [])
 list_there script k lists below = slice_get-get_or script.operations k [] (omega (arith, lists, below))
 
-pub first_stops :
-    (script : ScriptValue) (counts : List ℕ) (t : List Event) (k : ℕ) (o : Option Event) (e : Event) → length script.operations ≡ length script.setup.streams → k < length script.setup.streams
-    → IsCounted script counts t → ((y : Stream) → IsNext script y k (get_or counts k 0) t → option_to_list o ≡ next_offer script t y) → o ≡ Some e
-    → slice_get (flat_map (next_offer script t) (drop k (streams_of script))) 0 ≡ slice_get (flat_map (next_offer script t) (streams_of script)) 0
-    → Some e ≡ slice_get (flat_map (next_offer script t) (streams_of script)) 0
-first_stops script counts t k o e lists below counted offered some before =
-    let list = list_there script k lists below in
-    let there = stream_there script k (get_or script.operations k []) below list in
-    let y : Stream = record { number = k; host = there.host; operations = get_or script.operations k [] } in
-    offer_stops (next_offer script t) (streams_of script) k y o (slice_get (flat_map (next_offer script t) (streams_of script)) 0) e there.at some
-    (offered y (next_there script counts t k (get_or script.operations k []) counted list there)) before
+-- what the streams from number k on are offered
+abbrev pub offers_from : ScriptValue → List Event → ℕ → List Event
+offers_from script t k = flat_map (next_answer script t) (drop k (streams_of script))
 
-pub first_more :
+-- what the stream of number k is offered stands first among those
+abbrev pub Offers : ScriptValue → List ℕ → List Event → ℕ → Option Event → Type 0
+Offers script counts t k o = (y : Stream) → IsNext script y k (get_or counts k 0) t → option_to_list o ≡ next_answer script t y
+
+pub offers_part :
     (script : ScriptValue) (counts : List ℕ) (t : List Event) (k : ℕ) (o : Option Event) → length script.operations ≡ length script.setup.streams → k < length script.setup.streams
-    → IsCounted script counts t → ((y : Stream) → IsNext script y k (get_or counts k 0) t → option_to_list o ≡ next_offer script t y) → o ≡ None
-    → slice_get (flat_map (next_offer script t) (drop k (streams_of script))) 0 ≡ slice_get (flat_map (next_offer script t) (streams_of script)) 0
-    → slice_get (flat_map (next_offer script t) (drop (k + 1) (streams_of script))) 0 ≡ slice_get (flat_map (next_offer script t) (streams_of script)) 0
-first_more script counts t k o lists below counted offered none before =
+    → IsCounted script counts t → Offers script counts t k o → offers_from script t k ≡ option_to_list o ++ offers_from script t (k + 1)
+offers_part script counts t k o lists below counted offered =
     let list = list_there script k lists below in
     let there = stream_there script k (get_or script.operations k []) below list in
     let y : Stream = record { number = k; host = there.host; operations = get_or script.operations k [] } in
-    offer_more (next_offer script t) (streams_of script) k y o (slice_get (flat_map (next_offer script t) (streams_of script)) 0) there.at none
-    (offered y (next_there script counts t k (get_or script.operations k []) counted list there)) before
+    ap (flat_map (next_answer script t)) (left_at (streams_of script) k y there.at) ∙ flat_map-cons (next_answer script t) y (drop (k + 1) (streams_of script))
+    ∙ ap (λ xs. xs ++ offers_from script t (k + 1)) (sym (offered y (next_there script counts t k (get_or script.operations k []) counted list there)))
+
+-- no stream is left
+pub offers_end : (script : ScriptValue) (t : List Event) (k : ℕ) → length script.setup.streams ≤ k → offers_from script t k ≡ []
+offers_end script t k le = ap (flat_map (next_answer script t)) (drop_all k (streams_of script) (streams_end script k le))
+
+-- ---- counting
+
+-- so many are offered before stream k
+abbrev pub CountedTo : ScriptValue → List Event → ℕ → ℕ → Type 0
+CountedTo script t k n = n + length (offers_from script t k) ≡ length (offers_from script t 0)
+
+pub none_counted :
+    (script : ScriptValue) (counts : List ℕ) (t : List Event) (k n : ℕ) → length script.operations ≡ length script.setup.streams → k < length script.setup.streams
+    → IsCounted script counts t → Offers script counts t k None → CountedTo script t k n → CountedTo script t (k + 1) n
+none_counted script counts t k n lists below counted offered before =
+    let part = ap length (offers_part script counts t k None lists below counted offered) in omega (arith, part, before)
+
+pub one_counted_more :
+    (script : ScriptValue) (counts : List ℕ) (t : List Event) (k n : ℕ) (e : Event) → length script.operations ≡ length script.setup.streams → k < length script.setup.streams
+    → IsCounted script counts t → Offers script counts t k (Some e) → CountedTo script t k n → CountedTo script t (k + 1) (n + 1)
+one_counted_more script counts t k n e lists below counted offered before =
+    let part = ap length (offers_part script counts t k (Some e) lists below counted offered) in omega (arith, part, before)
+
+-- by whether there is an offer
+pub counted_with :
+    (script : ScriptValue) (counts : List ℕ) (t : List Event) (k n : ℕ) (o : Option Event) → length script.operations ≡ length script.setup.streams → k < length script.setup.streams
+    → IsCounted script counts t → Offers script counts t k o → is_some o ≡ true → CountedTo script t k n → CountedTo script t (k + 1) (n + 1)
+counted_with script counts t k n None lists below counted offered some before = absurd (false≢true some)
+counted_with script counts t k n (Some e) lists below counted offered some before = one_counted_more script counts t k n e lists below counted offered before
+
+pub counted_without :
+    (script : ScriptValue) (counts : List ℕ) (t : List Event) (k n : ℕ) (o : Option Event) → length script.operations ≡ length script.setup.streams → k < length script.setup.streams
+    → IsCounted script counts t → Offers script counts t k o → is_some o ≡ false → CountedTo script t k n → CountedTo script t (k + 1) n
+counted_without script counts t k n None lists below counted offered none before = none_counted script counts t k n lists below counted offered before
+counted_without script counts t k n (Some e) lists below counted offered none before = absurd (false≢true (sym none))
+
+pub all_counted : (script : ScriptValue) (t : List Event) (k n : ℕ) → length script.setup.streams ≤ k → CountedTo script t k n → n ≡ length (offers_from script t 0)
+all_counted script t k n le before = let none = ap length (offers_end script t k le) in omega (arith, none, before)
+
+-- ---- picking
+
+-- what is looked for stands so far behind the streams before k
+abbrev pub SoughtFrom : ScriptValue → List Event → ℕ → ℕ → ℕ → Type 0
+SoughtFrom script t sought k left = slice_get (offers_from script t k) left ≡ slice_get (offers_from script t 0) sought
+
+pub none_passed :
+    (script : ScriptValue) (counts : List ℕ) (t : List Event) (sought k left : ℕ) → length script.operations ≡ length script.setup.streams → k < length script.setup.streams
+    → IsCounted script counts t → Offers script counts t k None → SoughtFrom script t sought k left → SoughtFrom script t sought (k + 1) left
+none_passed script counts t sought k left lists below counted offered before =
+    ap (λ xs. slice_get xs left) (sym (offers_part script counts t k None lists below counted offered)) ∙ before
+
+pub one_found :
+    (script : ScriptValue) (counts : List ℕ) (t : List Event) (sought k left : ℕ) (e : Event) → length script.operations ≡ length script.setup.streams → k < length script.setup.streams
+    → IsCounted script counts t → Offers script counts t k (Some e) → left ≡ 0 → SoughtFrom script t sought k left → Some e ≡ slice_get (offers_from script t 0) sought
+one_found script counts t sought k left e lists below counted offered none before =
+    ap (slice_get (e ∷ offers_from script t (k + 1))) (sym none) ∙ ap (λ xs. slice_get xs left) (sym (offers_part script counts t k (Some e) lists below counted offered)) ∙ before
+
+behind : {X : Type 0} (x : X) (xs : List X) (left : ℕ) → 1 ≤ left → slice_get xs (left - 1) ≡ slice_get (x ∷ xs) left
+behind x xs zero some = absurd (omega (arith, some))
+behind x xs (suc n) some = let e : suc n - 1 ≡ n = omega arith in ap (slice_get xs) e
+
+pub one_passed :
+    (script : ScriptValue) (counts : List ℕ) (t : List Event) (sought k left : ℕ) (e : Event) → length script.operations ≡ length script.setup.streams → k < length script.setup.streams
+    → IsCounted script counts t → Offers script counts t k (Some e) → 1 ≤ left → SoughtFrom script t sought k left → SoughtFrom script t sought (k + 1) (left - 1)
+one_passed script counts t sought k left e lists below counted offered some before =
+    behind e (offers_from script t (k + 1)) left some ∙ ap (λ xs. slice_get xs left) (sym (offers_part script counts t k (Some e) lists below counted offered)) ∙ before
+
+pub none_found : (script : ScriptValue) (t : List Event) (sought k left : ℕ) → length script.setup.streams ≤ k → SoughtFrom script t sought k left → None ≡ slice_get (offers_from script t 0) sought
+none_found script t sought k left le before = ap (λ xs. slice_get xs left) (sym (offers_end script t k le)) ∙ before

@@ -1,5 +1,5 @@
 -- Version 1 has room for the tags of an event that keeps P0, where the setup has at most 64.
-use Rattle.std.proofs.Common.{arith, refl, true, ◌+◌, ◌<◌, ◌≡◌, ◌≤◌, IsTrue, ℕ}
+use Rattle.std.proofs.Common.{arith, refl, ◌≤◌, IsTrue, ℕ}
 use Rattle.std.specs.List.{list_all}
 use Rattle.std.specs.Prelude.{nat_le, nat_lt}
 use Rattle.std.proofs.lemmas.Bool.{and_from, and_parts, leb-true, lt-ltb, ltb-true}

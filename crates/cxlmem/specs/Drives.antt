@@ -1,13 +1,10 @@
 -- What `drive` reads and writes. Every rule here is an own rule.
-use Rattle.std.specs.Prelude.{Bool, IfSome, IsTrue, List, Option, false, length, nat_le, not, reverse, ℕ, ◌&&◌, ◌==◌, ◌≡◌, ◌≤◌, ◌<◌}
-use Rattle.std.specs.List.{list_all}
-use Rattle.cxl_message.specs.declared.events.Op.{Op}
+use Rattle.std.specs.Prelude.{IfSome, List, Option, length, reverse, ℕ, ◌≡◌, ◌≤◌, ◌<◌}
 use Rattle.cxl_message.specs.Script.{ScriptValue}
 use Rattle.coherence_model.specs.Driven.{driven_trace, event_bound}
 use Rattle.coherent_runs.specs.Coherent.{IsCoherent}
 use Rattle.cxl_codec.specs.Traces.{trace_bytes}
 use Rattle.commit_laws.specs.Commits.{CommitsEach}
-use Rattle.cxl_message.specs.Events.{is_whole}
 use Rattle.script_text.specs.declared.refusals.ScriptReason.{ScriptReason}
 use Rattle.script_text.specs.Failures.{FailsAt}
 use Rattle.script_text.specs.Script.{IsScript}
@@ -20,53 +17,29 @@ use Rattle.cxlmem.specs.Texts.{bad_script_text}
 abbrev pub script_limit : ℕ
 script_limit = 67108864
 
--- whether none of some operations stores a whole line
-abbrev pub has_no_whole : List Op → Bool
-has_no_whole ops = list_all (λ op. not (is_whole op)) ops
-
--- whether a script is plain: one host, as many filter entries and ways as lines at least, no pick, and no store of a whole line
-abbrev pub is_plain_script : ScriptValue → Bool
-is_plain_script script =
-    (script.setup.hosts == 1) && nat_le script.setup.lines script.setup.entries && nat_le script.setup.lines script.setup.ways
-    && (length script.picks == 0) && list_all has_no_whole script.operations
-
 -- the input is the one spelling of this script, and within the limit
 pub record Spells (input : List ℕ) (script : ScriptValue) : Type 0 where
   pub sound : IsScript script
   pub spelled : input ≡ script_bytes script
   pub within : length input ≤ script_limit
 
--- the input is this script, of a form that is driven today: a plain script
-pub record IsDriven (input : List ℕ) (script : ScriptValue) : Type 0 where
-  pub spells : Spells input script
-  pub plain : IsTrue (is_plain_script script)
-
--- the input is this script, which isn't plain
-pub record IsUndriven (input : List ℕ) (script : ScriptValue) : Type 0 where
-  pub spells : Spells input script
-  pub other : is_plain_script script ≡ false
-
--- the input is some script that isn't driven today
-abbrev pub IsUnbuiltScript : List ℕ → Type 0
-IsUnbuiltScript input = (script : ScriptValue) × IsUndriven input script
-
 -- the trace of a script: its setup, its opening, and the events of its driven trace in their order
 abbrev pub driven_bytes : ScriptValue → List ℕ
 driven_bytes script = trace_bytes script.setup script.opening (reverse (driven_trace script))
 
--- the input is a script that is driven; its driven trace went to the sink, and nothing else, and a reader reads it as such; in it each operation of the script is committed once, each stream's in its order, and nothing else is; it has at most 105 events for each operation, with one host; it is a run whose commits form a legal history, in which a writable copy is always the only copy, and an allowed next step stands wherever something is pending
+-- the input is a script; its driven trace went to the sink, and nothing else, and a reader reads it as such; in it each operation of the script is committed once, each stream's in its order, and nothing else is; it has at most 108 * H - 3 events for each operation, with H hosts; it is a run whose commits form a legal history, in which a writable copy is always the only copy, and an allowed next step stands wherever something is pending
 pub record Drives (input : List ℕ) (old new : Option (List ℕ)) : Type 0 where
   pub script : ScriptValue
-  pub driven : IsDriven input script
+  pub spells : Spells input script
   pub trace : WritesDriven old new script
   pub commits : CommitsEach script (driven_trace script)
   pub short : length (driven_trace script) ≤ event_bound script
   pub coherent : IsCoherent script.setup script.opening (driven_trace script)
 
--- the input is a script that is driven, and the first bytes of its trace went to the sink, and nothing else
+-- the input is a script, and the first bytes of its trace went to the sink, and nothing else
 pub record DrivesFront (input : List ℕ) (old new : Option (List ℕ)) : Type 0 where
   pub script : ScriptValue
-  pub driven : IsDriven input script
+  pub spells : Spells input script
   pub front : WritesFront old new (driven_bytes script)
 
 -- the input has more bytes than a script may have

@@ -3,7 +3,7 @@ ghost use Rattle.std.specs.Prelude.{◌≡◌, List};
 ghost use Rattle.std.specs.List.{list_all};
 ghost use Rattle.cxl_message.specs.declared.events.Event.{Event as AnEvent};
 ghost use Rattle.coherence_model.specs.Choices.{is_all_begun, streams_of};
-ghost use Rattle.cxlmem.specs.Driver.{IsCounted, counts_after, one_counted};
+ghost use Rattle.cxlmem.specs.Driver.{IsCounted, MayCount, counts_after};
 
 use cxl_message::Cause;
 use script_text::Script;
@@ -22,20 +22,11 @@ pub fn all_begun(script: &Script, counts: &[u32; 64]) -> bool
 
 /// Counts the operation that a cause begins, if it begins one.
 pub fn count(counts: &mut [u32; 64], cause: &Cause)
+    requires { MayCount cause.now counts.old }
     ensures { counts.new ≡ counts_after cause.now counts.old }
 {
     match cause {
-        Cause::Op { stream, .. } => count_one(counts, *stream as usize),
-        Cause::Take { .. } => {}
-        Cause::Act(_) => {}
-    }
-}
-
-/// Counts one more at a place, if the counts have it.
-fn count_one(counts: &mut [u32; 64], place: usize)
-    ensures { counts.new ≡ one_counted place counts.old }
-{
-    if place < 64 {
-        counts[place] = counts[place].saturating_add(1);
+        Cause::Op { stream, .. } => counts[*stream as usize] += 1,
+        Cause::Take { .. } | Cause::Act(_) => {}
     }
 }

@@ -6,7 +6,7 @@ ghost use Rattle.cxlmem.specs.Statuses.{IsAnswer, TellsWriteFault};
 ghost use Rattle.cxlmem.specs.Texts.{not_built_text, read_fault_text, too_long_text, usage_text};
 ghost use Rattle.cxlmem.specs.CommandLine.{IsDrive, IsForm, IsUnbuilt};
 ghost use Rattle.cxlmem.specs.Outcomes.{WritesText};
-ghost use Rattle.cxlmem.specs.Drives.{Drives, DrivesFront, IsTooLong, IsUnbuiltScript, RefusesScript};
+ghost use Rattle.cxlmem.specs.Drives.{Drives, DrivesFront, IsTooLong, RefusesScript};
 
 use crate::driving::drive;
 use crate::ends::{Status, not_built, usage};
@@ -17,8 +17,7 @@ use std::alloc::Global;
 /// Carries out the command that the words name: the words after the program's name. It reads from the source and
 /// writes to the sink, texts of refusals included (own rule).
 ///
-/// `drive` is built, for plain scripts: one host with any number of streams, an opening, as many filter entries and ways as
-/// lines at least, no store of a whole line and no pick. All else that is a form of the command line answers `NotBuilt`.
+/// `drive` is built, for every script. All else that is a form of the command line answers `NotBuilt`.
 ///
 /// The causes of `Usage`, `BadScript`, `TooLong` and `NotBuilt` and those of `Ok` exclude one another: an input that fails at
 /// a line is spelled by no script (`failures_are_alone` of `script_text`), and any other by one script at most
@@ -49,7 +48,7 @@ pub fn command<S: Source, K: Sink>(
     ensures unbuilt_words { IsUnbuilt words.now → result ≡ Status.NotBuilt }
     ensures bad_script { result ≡ Status.BadScript → RefusesScript (S.left source.old) (K.gone sink.old) (K.gone sink.new) (K.faults sink.old) (K.faults sink.new) }
     ensures too_long { result ≡ Status.TooLong → IfSome (S.left source.old) IsTooLong }
-    ensures not_built { result ≡ Status.NotBuilt → IsUnbuilt words.now ⊎ IsDrive words.now × IfSome (S.left source.old) IsUnbuiltScript }
+    ensures not_built { result ≡ Status.NotBuilt → IsUnbuilt words.now }
     ensures nothing_else { IsAnswer result }
 
     // What the source has left and the sink holds after a refusal.

@@ -1,38 +1,40 @@
-// The driving of a plain script: what is chosen next, and the machine that takes it.
-ghost use Rattle.std.specs.Prelude.{◌≡◌, ◌<◌, ◌≤◌, ◌∷◌, [], IfSome, IsTrue, List, None, length, option_to_list, slice_get, ℕ};
+// The driving of a script: what is chosen next, and the machine that takes it.
+ghost use Rattle.std.specs.Prelude.{◌≡◌, ◌%◌, ◌<◌, ◌≤◌, ◌∷◌, [], IfSome, IsTrue, List, None, length, option_to_list, slice_get, ℕ};
 ghost use Rattle.std.specs.List.{flat_map};
 ghost use Rattle.cxl_message.specs.declared.events.Event.{Event as AnEvent};
 ghost use Rattle.cxl_message.specs.Formed.{well_formed};
 ghost use Rattle.cxl_codec.specs.VersionOne.{fits_version_one};
+ghost use Rattle.choice_laws.specs.Answered.{next_answer};
 ghost use Rattle.coherence_model.specs.Choices.{Stream, choices, is_done as all_done, streams_of};
-ghost use Rattle.coherence_model.specs.Driven.{driven_trace};
-ghost use Rattle.coherence_model.specs.Streams.{begun_count};
-ghost use Rattle.coherence_model.specs.Traces.{events_of};
-ghost use Rattle.plain_laws.specs.Laws.{next_offer as offers_of};
-ghost use Rattle.plain_laws.specs.Plain.{IsPlain};
+ghost use Rattle.coherence_model.specs.Driven.{driven_trace, pick_now, picks_left};
+ghost use Rattle.driven_laws.specs.Scripts.{IsDrivable};
 ghost use Rattle.machine.specs.Stands.{StandsFor};
-ghost use Rattle.cxlmem.specs.Driver.{IsAt, IsNext};
+ghost use Rattle.cxlmem.specs.Driver.{IsAt, IsKept, IsNext};
 
 use crate::begun::{all_begun, count};
 use cxl_message::Event;
 use machine::Machine;
 use script_text::Script;
 
-/// Takes the first choice, unless all is done.
-pub fn turn(script: &Script, machine: &mut Machine, counts: &mut [u32; 64]) -> Option<Event>
-    requires plain { IsPlain script.now }
-    requires no_picks { script.now.picks ≡ [] }
+/// Takes the choice of the next pick, unless all is done.
+pub fn turn(
+    script: &Script,
+    machine: &mut Machine,
+    counts: &mut [u32; 64],
+    picks: &[u16],
+) -> Option<Event>
+    requires drivable { IsDrivable script.now }
     requires tags { script.now.setup.tags ≤ 64 }
-    requires at { (t : List AnEvent) × IsAt script.now machine.old counts.old t }
-    ensures ends { (t : List AnEvent) → IsAt script.now machine.old counts.old t → result ≡ None → t ≡ driven_trace script.now }
-    ensures goes { (t : List AnEvent) → IsAt script.now machine.old counts.old t → IfSome result (λ e. IsAt script.now machine.new counts.new (e ∷ t)) }
+    requires at { (t : List AnEvent) × IsAt script.now machine.old counts.old picks.now t }
+    ensures ends { (t : List AnEvent) → IsAt script.now machine.old counts.old picks.now t → result ≡ None → t ≡ driven_trace script.now }
+    ensures goes { (t : List AnEvent) → IsAt script.now machine.old counts.old picks.now t → IfSome result (λ e. IsAt script.now machine.new counts.new (picks_left picks.now) (e ∷ t)) }
     ensures formed { IfSome result (λ e. IsTrue (well_formed e)) }
     ensures version_one { IfSome result (λ e. IsTrue (fits_version_one e)) }
 {
     if is_done(script, machine, counts) {
         return None;
     }
-    let Some(event) = choose(script, machine, counts) else {
+    let Some(event) = choose(script, machine, counts, pick_of(picks)) else {
         unreachable!("where not all is done, something can be chosen")
     };
     match machine.apply(&event) {
@@ -44,9 +46,29 @@ pub fn turn(script: &Script, machine: &mut Machine, counts: &mut [u32; 64]) -> O
     }
 }
 
+/// The pick that is used now: 0 once the picks are used up.
+fn pick_of(picks: &[u16]) -> u16
+    ensures { result ≡ pick_now picks.now }
+{
+    match picks {
+        [] => 0,
+        [pick, ..] => *pick,
+    }
+}
+
+/// The picks that are left after one was used.
+pub fn left_of(picks: &[u16]) -> &[u16]
+    ensures { result.now ≡ picks_left picks.now }
+{
+    match picks {
+        [] => picks,
+        [_, left @ ..] => left,
+    }
+}
+
 /// Whether each stream has begun all of its operations, and nothing is pending.
 fn is_done(script: &Script, machine: &Machine, counts: &[u32; 64]) -> bool
-    ensures { (t : List AnEvent) → IsAt script.now machine.now counts.now t → result ≡ all_done script.now t }
+    ensures { (t : List AnEvent) → IsKept script.now machine.now counts.now t → result ≡ all_done script.now t }
 {
     if machine.pending() {
         return false;
@@ -54,26 +76,56 @@ fn is_done(script: &Script, machine: &Machine, counts: &[u32; 64]) -> bool
     all_begun(script, counts)
 }
 
-/// The first choice: the first next step, or else the first operation that a stream is offered.
-fn choose(script: &Script, machine: &Machine, counts: &[u32; 64]) -> Option<Event>
-    requires plain { IsPlain script.now }
-    requires setup { machine.now.setup ≡ script.now.setup }
-    ensures { (t : List AnEvent) → IsAt script.now machine.now counts.now t → result ≡ slice_get (choices script.now t) 0 }
+/// The choice of a pick: the next step, or behind those the operation that a stream is offered, of its number modulo their count.
+fn choose(script: &Script, machine: &Machine, counts: &[u32; 64], pick: u16) -> Option<Event>
+    requires drivable { IsDrivable script.now }
+    requires kept { (t : List AnEvent) × IsKept script.now machine.now counts.now t }
+    ensures { (t : List AnEvent) → IsKept script.now machine.now counts.now t → result ≡ slice_get (choices script.now t) (pick % length (choices script.now t)) }
 {
-    if machine.choices() > 0 {
+    let steps = machine.choices();
+    if pick == 0 && steps > 0 {
         return Some(machine.choice(0));
     }
-    first_offer(script, machine, counts)
+    let all = steps + offer_count(script, machine, counts);
+    if all == 0 {
+        return None;
+    }
+    let k = u32::from(pick) % all;
+    if k < steps {
+        return Some(machine.choice(k));
+    }
+    offer_at(script, machine, counts, k - steps)
 }
 
-/// The first operation that a stream is offered, by the streams' numbers.
-fn first_offer(script: &Script, machine: &Machine, counts: &[u32; 64]) -> Option<Event>
+/// How many streams are offered an operation.
+fn offer_count(script: &Script, machine: &Machine, counts: &[u32; 64]) -> u32
+    requires drivable { IsDrivable script.now }
     requires setup { machine.now.setup ≡ script.now.setup }
-    ensures { (t : List AnEvent) → IsAt script.now machine.now counts.now t → result ≡ slice_get (flat_map (offers_of script.now t) (streams_of script.now)) 0 }
+    ensures count { (t : List AnEvent) → IsKept script.now machine.now counts.now t → result ≡ length (flat_map (next_answer script.now t) (streams_of script.now)) }
+    ensures few { result ≤ 64 }
 {
+    let mut count = 0u32;
+    for stream in 0..script.setup().streams().len() {
+        if next_offer(script, machine, counts[stream], stream as u8).is_some() {
+            count += 1;
+        }
+    }
+    count
+}
+
+/// The operation of a number among those that streams are offered, by the streams' numbers.
+fn offer_at(script: &Script, machine: &Machine, counts: &[u32; 64], k: u32) -> Option<Event>
+    requires drivable { IsDrivable script.now }
+    requires setup { machine.now.setup ≡ script.now.setup }
+    ensures { (t : List AnEvent) → IsKept script.now machine.now counts.now t → result ≡ slice_get (flat_map (next_answer script.now t) (streams_of script.now)) k }
+{
+    let mut left = k;
     for stream in 0..script.setup().streams().len() {
         if let Some(event) = next_offer(script, machine, counts[stream], stream as u8) {
-            return Some(event);
+            if left == 0 {
+                return Some(event);
+            }
+            left -= 1;
         }
     }
     None
@@ -83,7 +135,7 @@ fn first_offer(script: &Script, machine: &Machine, counts: &[u32; 64]) -> Option
 fn next_offer(script: &Script, machine: &Machine, begun: u32, stream: u8) -> Option<Event>
     requires setup { machine.now.setup ≡ script.now.setup }
     requires stream { stream < length script.now.setup.streams }
-    ensures { (t : List AnEvent) → StandsFor machine.now script.now.setup script.now.opening t → (y : Stream) → IsNext script.now y stream begun t → option_to_list result ≡ offers_of script.now t y }
+    ensures { (t : List AnEvent) → StandsFor machine.now script.now.setup script.now.opening t → (y : Stream) → IsNext script.now y stream begun t → option_to_list result ≡ next_answer script.now t y }
 {
     let op = script.ops(stream).get(begun as usize)?;
     machine.offer(stream, op).ok()

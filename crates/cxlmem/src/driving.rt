@@ -3,12 +3,11 @@ ghost use Rattle.std.specs.Prelude.{◌≡◌, ◌⊎◌, ◌^◌, ◌<◌, ◌�
 ghost use Rattle.std.specs.Io.KnownBytes.{Appends};
 ghost use Rattle.outside_io.specs.Counts.{TellsFaults};
 ghost use Rattle.cxlmem.specs.Statuses.{IsAnswer, TellsWriteFault};
-ghost use Rattle.cxlmem.specs.Texts.{not_built_text, read_fault_text, too_long_text};
+ghost use Rattle.cxlmem.specs.Texts.{read_fault_text, too_long_text};
 ghost use Rattle.cxlmem.specs.Outcomes.{WritesText};
-ghost use Rattle.cxlmem.specs.Drives.{Drives, DrivesFront, IsBadScript, IsTooLong, IsUnbuiltScript, RefusesScript, script_limit};
+ghost use Rattle.cxlmem.specs.Drives.{Drives, DrivesFront, IsBadScript, IsTooLong, RefusesScript, script_limit};
 
-use crate::ends::{Status, bad_script, not_built, read_fault, too_long};
-use crate::plain::is_plain;
+use crate::ends::{Status, bad_script, read_fault, too_long};
 use crate::traces::write_trace;
 use outside_io::{ReadAllRefusal, Sink, Source, read_all};
 use script_text::{ScriptRefusal, parse_script};
@@ -30,12 +29,11 @@ pub fn drive<S: Source, K: Sink>(alloc: Global, source: &mut S, sink: &mut K) ->
     ensures write_fault { TellsWriteFault (K.faults sink.old) (K.faults sink.new) result }
     ensures bad_script { result ≡ Status.BadScript → RefusesScript (S.left source.old) (K.gone sink.old) (K.gone sink.new) (K.faults sink.old) (K.faults sink.new) }
     ensures too_long { result ≡ Status.TooLong → IfSome (S.left source.old) IsTooLong }
-    ensures not_built { result ≡ Status.NotBuilt → IfSome (S.left source.old) IsUnbuiltScript }
+    ensures built { result ≡ Status.NotBuilt → ⊥ }
     ensures nothing_else { IsAnswer result }
 
     ensures read_fault_text { result ≡ Status.ReadFault → WritesText (K.gone sink.old) (K.gone sink.new) (K.faults sink.old) (K.faults sink.new) read_fault_text }
     ensures too_long_text { result ≡ Status.TooLong → WritesText (K.gone sink.old) (K.gone sink.new) (K.faults sink.old) (K.faults sink.new) too_long_text }
-    ensures not_built_text { result ≡ Status.NotBuilt → WritesText (K.gone sink.old) (K.gone sink.new) (K.faults sink.old) (K.faults sink.new) not_built_text }
     ensures cut_short { result ≡ Status.WriteFault → IfSome (S.left source.old) (λ input. DrivesFront input (K.gone sink.old) (K.gone sink.new)) }
     ensures unfinished { result ≡ Status.Memory → Appends (K.gone sink.old) (K.gone sink.new) [] ⊎ IfSome (S.left source.old) (λ input. DrivesFront input (K.gone sink.old) (K.gone sink.new)) }
 {
@@ -58,21 +56,14 @@ fn drive_input<K: Sink>(alloc: Global, input: &[u8], sink: &mut K) -> Status
     ensures not_long { result ≡ Status.TooLong → ⊥ }
     ensures write_fault { TellsWriteFault (K.faults sink.old) (K.faults sink.new) result }
     ensures bad_script { result ≡ Status.BadScript → RefusesScript (Some input.now) (K.gone sink.old) (K.gone sink.new) (K.faults sink.old) (K.faults sink.new) }
-    ensures not_built { result ≡ Status.NotBuilt → IsUnbuiltScript input.now }
+    ensures built { result ≡ Status.NotBuilt → ⊥ }
     ensures nothing_else { IsAnswer result }
 
-    ensures not_built_text { result ≡ Status.NotBuilt → WritesText (K.gone sink.old) (K.gone sink.new) (K.faults sink.old) (K.faults sink.new) not_built_text }
     ensures cut_short { result ≡ Status.WriteFault → DrivesFront input.now (K.gone sink.old) (K.gone sink.new) }
     ensures unfinished { result ≡ Status.Memory → Appends (K.gone sink.old) (K.gone sink.new) [] ⊎ DrivesFront input.now (K.gone sink.old) (K.gone sink.new) }
 {
     match parse_script(alloc, input) {
-        Ok(script) => {
-            if is_plain(&script) {
-                write_trace(alloc, &script, sink)
-            } else {
-                not_built(sink)
-            }
-        }
+        Ok(script) => write_trace(alloc, &script, sink),
         Err(ScriptRefusal::Bad { line, reason }) => bad_script(sink, line, reason),
         Err(ScriptRefusal::Memory) => Status::Memory,
     }

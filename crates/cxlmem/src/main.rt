@@ -11,7 +11,6 @@ mod driver;
 mod driving;
 mod ends;
 mod forms;
-mod plain;
 #[cfg(test)]
 mod tests;
 mod traces;

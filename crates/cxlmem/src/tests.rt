@@ -1,9 +1,15 @@
 // The commands over sources and sinks in memory: worked examples, each read and write failing once, and each refusal.
 mod examples;
+mod flows;
 mod line_feeds;
 
 use super::*;
 use examples::*;
+use flows::{
+    BLOCKS_OF_FOUR, CLEAN_EVICTION_CROSSES, DIRTY_EVICTION, DIRTY_EVICTION_CROSSES, EARLY_CONFLICT,
+    FILTER_OF_ONE_ENTRY, Flow, LATE_CONFLICT, MODIFIED_LINE_IS_WANTED, SHARED_COPY_IS_DROPPED,
+    SHARING, STORE_OVER_SHARED_COPIES, WHOLE_STORE_AND_HIT, WHOLE_STORES_IN_CONFLICT,
+};
 use line_feeds::LineFeeds;
 use outside_io::{MemSink, MemSource};
 use std::alloc::{AllocError, Global};
@@ -74,7 +80,7 @@ fn drives(rt: &impl Abort, alloc: Global, script: &[u8], trace: &[Part]) -> Resu
 }
 
 #[test]
-fn plain_scripts_are_driven(rt: HostRuntime) -> Result<(), Fail> {
+fn scripts_of_one_host_are_driven(rt: HostRuntime) -> Result<(), Fail> {
     drives(&rt, rt.alloc(), NOTHING, &NOTHING_TRACE)?;
     drives(&rt, rt.alloc(), ONE_LOAD, &ONE_LOAD_TRACE)?;
     drives(&rt, rt.alloc(), SILENT_UPGRADE, &SILENT_UPGRADE_TRACE)?;
@@ -137,23 +143,58 @@ fn words_of_other_forms_are_not_built(rt: HostRuntime) -> Result<(), Fail> {
     Ok(())
 }
 
+/// The sum of some bytes, each times its place from 1 on.
+fn weighted(bytes: &[u8]) -> u64 {
+    bytes.iter().enumerate().fold(0u64, |sum, (place, byte)| {
+        sum.wrapping_add(
+            (place as u64)
+                .wrapping_add(1)
+                .wrapping_mul(u64::from(*byte)),
+        )
+    })
+}
+
+/// The script of a flow is driven, and its trace sums up to what the flow says.
+fn drives_flow(rt: &impl Abort, alloc: Global, flow: &Flow) -> Result<(), AllocError> {
+    let mut script = Vec::from_slice(alloc, flow.script.as_bytes())?;
+    for _ in 0..flow.zeros {
+        script.extend_from_slice(b"pick 0\n")?;
+    }
+    script.extend_from_slice(flow.picks.as_bytes())?;
+    let done = run(alloc, &["drive"], &script, &[], &[])?;
+    assert_eq!(rt; done.status, Status::Ok);
+    assert_eq!(rt; done.written.len(), flow.length);
+    assert_eq!(rt; weighted(&done.written), flow.sum);
+    Ok(())
+}
+
 #[test]
-fn scripts_of_other_forms_are_not_built(rt: HostRuntime) -> Result<(), Fail> {
-    for input in [
-        "hosts 2\nlines 1\nfilter 1\nways 1\ntags 2\ncredits 2\nroom 1\n",
-        "hosts 1\nlines 2\nfilter 1\nways 2\ntags 2\ncredits 2\nroom 1\n",
-        "hosts 1\nlines 2\nfilter 2\nways 1\ntags 2\ncredits 2\nroom 1\n",
-        "hosts 1\nlines 1\nfilter 1\nways 1\ntags 2\ncredits 2\nroom 1\npick 0\n",
-        "hosts 1\nlines 1\nfilter 1\nways 1\ntags 2\ncredits 2\nroom 1\nstream 0\nwhole 0 11111111111111111111111111111111111111111111111111111111111111111111111111111111111111111111111111111111111111111111111111111111\n",
+fn flows_of_several_hosts_are_driven(rt: HostRuntime) -> Result<(), Fail> {
+    for flow in [
+        SHARING,
+        STORE_OVER_SHARED_COPIES,
+        MODIFIED_LINE_IS_WANTED,
+        EARLY_CONFLICT,
+        LATE_CONFLICT,
+        WHOLE_STORES_IN_CONFLICT,
     ] {
-        refuses(
-            &rt,
-            rt.alloc(),
-            &["drive"],
-            input,
-            Status::NotBuilt,
-            "not built\n",
-        )?;
+        drives_flow(&rt, rt.alloc(), &flow)?;
+    }
+    Ok(())
+}
+
+#[test]
+fn flows_of_evictions_are_driven(rt: HostRuntime) -> Result<(), Fail> {
+    for flow in [
+        DIRTY_EVICTION,
+        DIRTY_EVICTION_CROSSES,
+        CLEAN_EVICTION_CROSSES,
+        FILTER_OF_ONE_ENTRY,
+        BLOCKS_OF_FOUR,
+        SHARED_COPY_IS_DROPPED,
+        WHOLE_STORE_AND_HIT,
+    ] {
+        drives_flow(&rt, rt.alloc(), &flow)?;
     }
     Ok(())
 }

@@ -1,7 +1,7 @@
-// The driven trace of a plain script, written as it is driven.
+// The driven trace of a script, written as it is driven.
 ghost use Rattle.std.specs.Prelude.{◌≡◌, ◌≢◌, ◌+◌, ◌^◌, ◌<◌, ◌≤◌, ◌⊎◌, [], IsErrOf, List, OnErr, OnOk, Option, reverse, ℕ};
 ghost use Rattle.coherence_model.specs.Driven.{driven_trace};
-ghost use Rattle.plain_laws.specs.Plain.{IsPlain};
+ghost use Rattle.driven_laws.specs.Scripts.{IsDrivable};
 ghost use Rattle.machine.specs.Stands.{StandsFor};
 ghost use Rattle.outside_io.specs.Counts.{TellsFaults};
 ghost use Rattle.trace_stream.specs.Buffers.{reach};
@@ -12,7 +12,7 @@ ghost use Rattle.cxlmem.specs.Outcomes.{WritesFront};
 ghost use Rattle.cxlmem.specs.Outputs.{HasPut, WritesDriven};
 ghost use Rattle.cxlmem.specs.Statuses.{TellsWriteFault};
 
-use crate::driver::turn;
+use crate::driver::{left_of, turn};
 use crate::ends::Status;
 use machine::{Machine, OpenMachineRefusal};
 use outside_io::Sink;
@@ -20,13 +20,12 @@ use script_text::Script;
 use std::alloc::Global;
 use trace_stream::{TraceWriteRefusal, TraceWriter};
 
-// One turn more than any plain script's driven trace has events: 105 for each of 65,536 operations.
-const MOST_TURNS: u64 = 6881281;
+// One turn more than any script's driven trace has events: 108 * 16 - 3 for each of 65,536 operations.
+const MOST_TURNS: u64 = 113049601;
 
-/// Writes the driven trace of a plain script, in pieces, as it is driven.
+/// Writes the driven trace of a script, in pieces, as it is driven.
 pub fn write_trace<K: Sink>(alloc: Global, script: &Script, sink: &mut K) -> Status
-    requires plain { IsPlain script.now }
-    requires no_picks { script.now.picks ≡ [] }
+    requires drivable { IsDrivable script.now }
     requires sink_counts { K.highest_count sink.old < 2 ^ 62 }
 
     ensures written { result ≡ Status.Ok → WritesDriven (K.gone sink.old) (K.gone sink.new) script.now }
@@ -51,15 +50,14 @@ pub fn write_trace<K: Sink>(alloc: Global, script: &Script, sink: &mut K) -> Sta
     }
 }
 
-/// Puts the driven trace of a plain script, from the first byte to the last.
+/// Puts the driven trace of a script, from the first byte to the last.
 fn put_trace<K: Sink>(
     script: &Script,
     machine: &mut Machine,
     writer: &mut TraceWriter<K>,
 ) -> Result<(), TraceWriteRefusal>
-    requires plain { IsPlain script.now }
+    requires drivable { IsDrivable script.now }
     requires tags { script.now.setup.tags ≤ 64 }
-    requires no_picks { script.now.picks ≡ [] }
     requires opened { StandsFor machine.old script.now.setup script.now.opening [] }
     requires new { IsNew writer.old }
     requires sink_counts { writer.old.out.highest < 2 ^ 62 }
@@ -74,12 +72,12 @@ fn put_trace<K: Sink>(
     writer.end()
 }
 
-/// Begins the trace of a plain script: its setup and its opening.
+/// Begins the trace of a script: its setup and its opening.
 fn begin_trace<K: Sink>(
     script: &Script,
     writer: &mut TraceWriter<K>,
 ) -> Result<(), TraceWriteRefusal>
-    requires plain { IsPlain script.now }
+    requires drivable { IsDrivable script.now }
     requires tags { script.now.setup.tags ≤ 64 }
     requires new { IsNew writer.old }
     requires sink_counts { writer.old.out.highest < 2 ^ 62 }
@@ -101,9 +99,8 @@ fn put_events<K: Sink>(
     machine: &mut Machine,
     writer: &mut TraceWriter<K>,
 ) -> Result<(), TraceWriteRefusal>
-    requires plain { IsPlain script.now }
+    requires drivable { IsDrivable script.now }
     requires tags { script.now.setup.tags ≤ 64 }
-    requires no_picks { script.now.picks ≡ [] }
     requires opened { StandsFor machine.old script.now.setup script.now.opening [] }
     requires begun { writer.old.progress ≡ Progress.Begun }
     requires none { writer.old.count ≡ 0 }
@@ -113,15 +110,17 @@ fn put_events<K: Sink>(
     ensures progress { OnOk result (writer.new.progress ≡ Progress.Begun) }
     ensures cut_short { (start : Option (List ℕ)) → HasPut start writer.old script.now [] → OnErr result (WritesFront start writer.new.out.gone (driven_bytes script.now)) }
     ensures faults { TellsFaults writer.old.out.faults writer.new.out.faults (IsErrOf result TraceWriteRefusal.WriteFault) }
-    ensures counts { OnOk result (reach writer.new.out < 2 ^ 62 + 2 ^ 35) }
+    ensures counts { OnOk result (reach writer.new.out < 2 ^ 62 + 2 ^ 38) }
     ensures same_sink { writer.new.out.sink ≡ writer.old.out.sink }
 {
     let mut counts = [0u32; 64];
+    let mut picks = script.picks();
     for _ in 0..MOST_TURNS {
-        match turn(script, machine, &mut counts) {
+        match turn(script, machine, &mut counts, picks) {
             Some(event) => writer.put(&event)?,
             None => return Ok(()),
         }
+        picks = left_of(picks);
     }
     unreachable!("a driven trace has fewer events")
 }

@@ -1,15 +1,4 @@
-pub mod Built
-pub mod Stores
-pub mod HostRecord
-pub mod HostAnswers
-pub mod HostChanges
-pub mod Tables
-pub mod Queues
-pub mod DeviceRecord
-pub mod DeviceAnswers
-pub mod DeviceChanges
-pub mod MachineRecord
+pub mod Going
+pub mod Offers
 pub mod Stands
 pub mod Steps
-pub mod Offers
-pub mod Opened

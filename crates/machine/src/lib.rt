@@ -1,36 +1,22 @@
-//! Exactly the allowed steps of the coherence machine, for the rows of the first path: the parts of hosts and device and
-//! the messages in flight are kept as tables and short queues, and each call answers what the definitions give.
-//!
-//! "Own rule" marks what is this project's own and no statement about CXL 3.1.
+//! The machine of all rows: the home agents of a setup, the device and the messages in flight between them (CXL 3.1, chapter 3: the
+//! flows of HDM-DB; own rule: the rows and the order of next steps).
 #![tactic(auto)]
 
-mod answers;
-mod bytes;
+mod agents;
 mod calls;
-mod copies;
-mod desk;
-mod desks;
-mod device_open;
-mod device_side;
-mod directory;
-mod engine;
-mod events;
-mod host_side;
-mod judge;
-mod kept;
-mod next;
-mod offers;
-mod operations;
-mod profile;
-mod queue;
-mod reads;
+mod choosing;
+mod following;
+mod judging;
+mod machine;
+mod opening;
+mod performing;
+mod picking;
 mod refusals;
 mod rows;
-mod streams;
-mod tasks;
+mod steps;
 #[cfg(test)]
 mod tests;
-mod wires;
 
-pub use engine::Machine;
-pub use refusals::{HostRefusal, OpenMachineRefusal};
+pub use host_home::HostRefusal;
+pub use machine::Machine;
+pub use refusals::OpenMachineRefusal;

@@ -4,7 +4,7 @@ ghost use Rattle.coherence_model.specs.DeviceRows.{device_act_rule, device_take_
 ghost use Rattle.coherence_model.specs.Fitting.{is_device as agent_is_device};
 ghost use Rattle.coherence_model.specs.HostRows.{host_act_rule, host_take_rule, ndr_rule};
 
-use crate::profile::is_device;
+use crate::judging::is_device;
 use cxl_message::{Act, Message, NdrOp, RuleNo};
 
 /// The row of a taken message at an agent.

@@ -4,6 +4,7 @@ use cxl_message::{
     Act, Bytes64, Cause, Channel, Commit, Event, Line, Message, Meta, NdrOp, Op, Opening, Out,
     ReqOp, RuleNo, Sends, Setup, SnpType, Tag,
 };
+use event_room::EventRoom;
 use std::process::Abort;
 use std::test::Fail;
 
@@ -222,6 +223,11 @@ fn offered(rt: &impl Abort, machine: &Machine, op: &Op) -> Result<Event, HostRef
     machine.offer(0, op)
 }
 
+fn stream_next(rt: &impl Abort, machine: &Machine) -> u32 {
+    assert!(rt; machine.hosts() > 0);
+    machine.host(0).stream_next(0)
+}
+
 #[test]
 fn one_load_and_a_silent_upgrade(rt: HostRuntime) -> Result<(), Fail> {
     let mut machine = opened(&rt)?;
@@ -269,14 +275,9 @@ fn operations_are_refused(rt: HostRuntime) -> Result<(), Fail> {
         place: 8,
         value: 0,
     };
-    let whole = Op::Whole {
-        line: Line(0),
-        bytes: ZEROS,
-    };
     for (op, refusal) in [
         (past, HostRefusal::NoSuchLine),
         (far, HostRefusal::Broken(RuleNo::P0)),
-        (whole, HostRefusal::Broken(RuleNo::H2)),
     ] {
         assert_eq!(rt; offered(&rt, &machine, &op), Err(refusal));
     }
@@ -288,6 +289,38 @@ fn operations_are_refused(rt: HostRuntime) -> Result<(), Fail> {
         offered(&rt, &machine, &other),
         Err(HostRefusal::Broken(RuleNo::S0))
     );
+    Ok(())
+}
+
+#[test]
+fn next_steps_are_performed(rt: HostRuntime) -> Result<(), Fail> {
+    let mut machine = opened(&rt)?;
+    let mut made = EventRoom::new();
+    for place in 0..13 {
+        let wanted = worked(place).ok_or("an event")?;
+        if place == 0 || place == 12 {
+            assert_eq!(rt; machine.apply(&wanted), Ok(()));
+        } else {
+            assert!(rt; machine.choices() > 0);
+            machine.perform(0, &mut made);
+            assert_eq!(rt; made.event(), wanted, "at {place}");
+        }
+    }
+    Ok(())
+}
+
+#[test]
+fn parts_are_read_after_an_event(rt: HostRuntime) -> Result<(), Fail> {
+    let mut machine = opened(&rt)?;
+    assert_eq!(rt; machine.hosts(), 1);
+    assert_eq!(rt; machine.flight_weight(), 0);
+    let mut room = EventRoom::new();
+    room.set(&worked(0).ok_or("an event")?);
+    assert_eq!(rt; machine.judge(&room), Ok(()));
+    assert_eq!(rt; machine.judge(&room), Err(RuleNo::S0));
+    assert_eq!(rt; machine.flight_weight(), 108 - 11);
+    assert_eq!(rt; stream_next(&rt, &machine), 1);
+    assert!(rt; !machine.device().pending());
     Ok(())
 }
 

@@ -1,52 +1,42 @@
 -- What was parsed is the one script that the input is, and its driven trace is written.
-use Rattle.std.proofs.Common.{[], inr, sym, ◌∙◌}
+use Rattle.std.proofs.Common.{[], inr, sym}
 use Rattle.coherent_runs.proofs.Runs.{runs_coherent}
 use Rattle.coherence_model.specs.Driven.{driven_trace, event_bound}
 use Rattle.driven_laws.proofs.Ending.{driven_is_committed, reached_is_short}
 use Rattle.driven_laws.proofs.Reached.{driving_reaches, reached_is_run}
-use Rattle.cxlmem.proofs.PlainTests.{no_picks_of, plain_of}
+use Rattle.cxlmem.proofs.Drivable.{drivable_of}
 use Rattle.cxlmem.proofs.Statuses.{fault_is_not_ok, memory_is_not_ok}
 use Rattle.cxlmem.proofs.driving.drive_input.Goals as goal
 
-pub write_trace-requires-clause-plain : goal.write_trace-requires-clause-plain
-write_trace-requires-clause-plain g c = plain_of c.in-Ok.script c.in-Ok.ensures.script (sym c.is_plain.ensures ∙ c.if-is_plain.true)
+pub write_trace-requires-clause-drivable : goal.write_trace-requires-clause-drivable
+write_trace-requires-clause-drivable g c = drivable_of c.in-Ok.script c.in-Ok.ensures.script
 
-pub write_trace-requires-clause-no_picks : goal.write_trace-requires-clause-no_picks
-write_trace-requires-clause-no_picks g c = no_picks_of c.in-Ok.script (sym c.is_plain.ensures ∙ c.if-is_plain.true)
-
-pub returns-then-is_plain-clause-driven : goal.returns-then-is_plain-clause-driven
-returns-then-is_plain-clause-driven g c done =
+pub returns-in-Ok-clause-driven : goal.returns-in-Ok-clause-driven
+returns-in-Ok-clause-driven g c done =
     let script = c.in-Ok.script in
-    let passes = sym c.is_plain.ensures ∙ c.if-is_plain.true in
-    let plain = plain_of script c.in-Ok.ensures.script passes in
+    let drivable = drivable_of script c.in-Ok.ensures.script in
     record {
       script = script;
-      driven = record { spells = record { sound = c.in-Ok.ensures.script; spelled = c.in-Ok.ensures.spelled; within = c.requires.within }; plain = passes };
+      spells = record { sound = c.in-Ok.ensures.script; spelled = c.in-Ok.ensures.spelled; within = c.requires.within };
       trace = c.write_trace.ensures.written done;
-      commits = driven_is_committed script plain.drivable;
-      short = reached_is_short script plain.drivable (driven_trace script) (driving_reaches script (event_bound script) script.picks [] tt);
+      commits = driven_is_committed script drivable;
+      short = reached_is_short script drivable (driven_trace script) (driving_reaches script (event_bound script) script.picks [] tt);
       coherent =
-          runs_coherent script.setup script.opening plain.drivable.limits (driven_trace script)
-          (reached_is_run script plain.drivable (driven_trace script) (driving_reaches script (event_bound script) script.picks [] tt));
+          runs_coherent script.setup script.opening drivable.limits (driven_trace script)
+          (reached_is_run script drivable (driven_trace script) (driving_reaches script (event_bound script) script.picks [] tt));
     }
 
-pub returns-then-is_plain-clause-cut_short : goal.returns-then-is_plain-clause-cut_short
-returns-then-is_plain-clause-cut_short g c fault = record {
+pub returns-in-Ok-clause-cut_short : goal.returns-in-Ok-clause-cut_short
+returns-in-Ok-clause-cut_short g c fault = record {
   script = c.in-Ok.script;
-  driven = record {
-    spells = record { sound = c.in-Ok.ensures.script; spelled = c.in-Ok.ensures.spelled; within = c.requires.within };
-    plain = sym c.is_plain.ensures ∙ c.if-is_plain.true;
-  };
+  spells = record { sound = c.in-Ok.ensures.script; spelled = c.in-Ok.ensures.spelled; within = c.requires.within };
   front = c.write_trace.ensures.cut_short (fault_is_not_ok _ fault);
 }
 
-pub returns-then-is_plain-clause-unfinished : goal.returns-then-is_plain-clause-unfinished
-returns-then-is_plain-clause-unfinished g c none = inr (record {
+pub returns-in-Ok-clause-unfinished : goal.returns-in-Ok-clause-unfinished
+returns-in-Ok-clause-unfinished g c none = inr (record {
   script = c.in-Ok.script;
-  driven = record {
-    spells = record { sound = c.in-Ok.ensures.script; spelled = c.in-Ok.ensures.spelled; within = c.requires.within };
-    plain = sym c.is_plain.ensures ∙ c.if-is_plain.true;
-  };
+  spells = record { sound = c.in-Ok.ensures.script; spelled = c.in-Ok.ensures.spelled; within = c.requires.within };
   front = c.write_trace.ensures.cut_short (memory_is_not_ok _ none);
 })
 

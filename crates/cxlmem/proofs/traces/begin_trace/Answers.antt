@@ -15,7 +15,7 @@ use Rattle.cxlmem.proofs.traces.begin_trace.Goals as goal
 pub begin-requires-clause-counts : goal.begin-requires-clause-counts
 begin-requires-clause-counts g c =
     let script = c.args.script.now in
-    let lines = c.requires.plain.drivable.limits.lines.1 in
+    let lines = c.requires.drivable.limits.lines.1 in
     let few = few_lines 0 script.setup.lines script.opening (omega arith) c.opening.ensures.script.opening.ascending c.opening.ensures.script.opening_lines in
     let size : length c.opening.result.now ≡ length script.opening = ap (λ (pairs : List (Line × Bytes64)). length pairs) c.opening.ensures.opening in
     let empty : length c.args.writer.now.out.waiting ≡ 0 = ap (λ (bytes : List ℕ). length bytes) c.requires.new.empty in
@@ -36,7 +36,7 @@ returns-clause-cut_short g c =
 pub returns-clause-counts : goal.returns-clause-counts
 returns-clause-counts g c =
     let script = c.args.script.now in
-    let lines = c.requires.plain.drivable.limits.lines.1 in
+    let lines = c.requires.drivable.limits.lines.1 in
     let few = few_lines 0 script.setup.lines script.opening (omega arith) c.opening.ensures.script.opening.ascending c.opening.ensures.script.opening_lines in
     let size : length c.opening.result.now ≡ length script.opening = ap (λ (pairs : List (Line × Bytes64)). length pairs) c.opening.ensures.opening in
     let low = c.requires.sink_counts in

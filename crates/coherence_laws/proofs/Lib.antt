@@ -1,0 +1,4 @@
+mod Advanced
+mod Copied
+mod Weighed
+mod Rested

@@ -1,9 +1,0 @@
--- The steps of the hosts so far are visited.
-use Rattle.std.proofs.Common.{◌≡◌}
-use Rattle.std.specs.Prelude.{flat_map}
-use Rattle.cxl_message.specs.Lists.{below}
-use Rattle.machine.specs.Steps.{take_steps, visited}
-use Rattle.machine.proofs.engine.Machine.visit_takes.Given as goal
-
-abbrev pub invariant-loop-host : goal.invariant-loop-host
-invariant-loop-host l = l.picker ≡ visited l.initial.picker (flat_map (take_steps l.self) (below l.host))
