@@ -124,6 +124,6 @@ fn setup_within(
 {
     match Setup::new(hosts, lines, entries, ways, tags, credits, streams) {
         Ok(setup) => setup,
-        Err(_) => unreachable!(),
+        Err(_) => unreachable!("the numbers are within their limits"),
     }
 }

@@ -29,6 +29,3 @@ pub use laws::{one_answer, one_spelling, one_trace, read_again};
 pub use openings::{OPENING_LENGTH, decode_opening, encode_opening};
 pub use refusals::DecodeRefusal;
 pub use version_one::{MOST_SHORT_TAGS, fits_version_one, setup_fits_version_one};
-
-#[cfg(test)]
-mod tests;

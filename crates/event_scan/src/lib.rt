@@ -8,6 +8,3 @@ mod scans;
 
 pub use openings::opening_cut_below;
 pub use scans::EventScan;
-
-#[cfg(test)]
-mod tests;

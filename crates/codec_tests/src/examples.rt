@@ -1,6 +1,9 @@
 // Worked examples.
-use super::joined;
-use crate::*;
+use crate::records::joined;
+use cxl_codec::{
+    DecodeRefusal, FieldName, decode_end, decode_event, decode_header, decode_opening, encode_end,
+    encode_event, encode_header, encode_opening, encode_room, fits_version_one,
+};
 use cxl_message::{
     Act, Bytes64, Cause, Commit, Event, Line, Message, Meta, NdrOp, Op, Out, ReqOp, Sends, Setup,
     SnpType, Tag, well_formed,

@@ -1,7 +1,9 @@
 // Each byte of each kind of record, damaged in each way that changes its class: each byte that its place doesn't allow is
 // put there in turn, and where every byte is allowed, each of them. `places` is the table of what a place allows.
-use super::places::{Place, expected, is_allowed};
-use crate::*;
+use crate::places::{Place, expected, is_allowed};
+use cxl_codec::{
+    DecodeRefusal, FieldName, decode_end, decode_event, decode_header, decode_opening, decode_room,
+};
 use event_room::EventRoom;
 use std::alloc::{AllocError, Global};
 use std::process::Abort;

@@ -1,5 +1,5 @@
 // What each place of a record allows, and how it refuses the rest: one table.
-use crate::{DecodeRefusal, FieldName};
+use cxl_codec::{DecodeRefusal, FieldName};
 
 // What stands at some bytes of a sample.
 #[derive(Clone, Copy)]

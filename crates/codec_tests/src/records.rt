@@ -1,16 +1,14 @@
-ghost use Rattle.std.specs.Prelude.{◌≡◌, ◌++◌, OnOk};
-
-mod damage;
-mod examples;
-mod places;
-
-use super::*;
+// Headers, ends, names and the numbers that version 1 has room for.
+use cxl_codec::{
+    DecodeRefusal, FieldName, decode_end, decode_header, encode_end, encode_header,
+    fits_version_one, setup_fits_version_one,
+};
 use cxl_message::{Act, Cause, Event, Line, Message, NdrOp, Out, Sends, Setup, Tag};
 use std::alloc::{AllocError, Global};
 use std::test::Fail;
 
 // Some parts, one after the other.
-fn joined(alloc: Global, parts: &[&[u8]]) -> Result<Vec<u8>, AllocError> {
+pub fn joined(alloc: Global, parts: &[&[u8]]) -> Result<Vec<u8>, AllocError> {
     let mut all = Vec::new(alloc);
     for part in parts {
         all.extend_from_slice(part)?;

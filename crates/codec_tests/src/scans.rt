@@ -1,18 +1,10 @@
 // Records that come byte by byte.
-use crate::{EventScan, opening_cut_below};
+use crate::records::joined;
 use cxl_codec::{DecodeRefusal, decode_event};
+use event_scan::{EventScan, opening_cut_below};
 use std::alloc::{AllocError, Global};
 use std::process::Abort;
 use std::test::Fail;
-
-// Some parts, one after the other.
-fn joined(alloc: Global, parts: &[&[u8]]) -> Result<Vec<u8>, AllocError> {
-    let mut all = Vec::new(alloc);
-    for part in parts {
-        all.extend_from_slice(part)?;
-    }
-    Ok(all)
-}
 
 // At each byte the scan says what decoding all bytes from the front says: whether the record is still cut short.
 fn try_record(rt: &impl Abort, bytes: &[u8]) {
