@@ -1,7 +1,8 @@
 -- From what the agent keeps to the model's words.
-use Rattle.std.proofs.Common.{◌≡◌, ℕ, zero, suc, ◌<◌, Bool, List, [], ◌∷◌, ◌++◌, Option, Some, None, Ok, Err, length, map, refl, ap, sym, ◌∙◌, subst, arith}
+use Rattle.std.proofs.Common.{◌≡◌, ℕ, zero, suc, ◌<◌, Bool, true, false, IsTrue, List, [], ◌∷◌, ◌++◌, Option, Some, None, Ok, Err, length, map, refl, ap, sym, ◌∙◌, subst, arith}
 use Rattle.std.specs.declared.result.Result.{Result}
-use Rattle.std.specs.Prelude.{flat_map, slice_get}
+use Rattle.std.specs.Prelude.{flat_map, slice_get, ◌↔◌}
+use Rattle.std.proofs.lemmas.Bool.{false≢true}
 use Rattle.cxl_message.specs.declared.events.Act.{Act}
 use Rattle.cxl_message.specs.declared.events.Cause.{Cause}
 use Rattle.cxl_message.specs.declared.events.Event.{Event}
@@ -187,3 +188,44 @@ pub stands_by : (d later : AgentRecord) (cause : Cause) (w : Emission) (e : Even
     → WhereStands d (λ setup opening mine. StandsFor later setup opening (event_with device cause w ∷ mine))
 stands_by d later cause w e by same is setup opening mine stands =
     subst (λ (x : Event). StandsFor later setup opening (x ∷ mine)) (event_by cause e by ∙ ap (event_with device cause) (sym same)) (is setup opening mine stands)
+
+-- ---- a step that is wanted
+
+-- the emission of an answer that is one
+abbrev emission_or : Emission → Answer → Emission
+emission_or w (Answer.Emits v) = v
+emission_or w Answer.NoSuchLine = w
+emission_or w Answer.Again = w
+emission_or w Answer.NoTag = w
+emission_or w Answer.NoWay = w
+emission_or w (Answer.NoCredit c) = w
+emission_or w (Answer.Broken rule) = w
+
+-- what is answered is wanted exactly where both are the same
+pub wanted_answers : (d : AgentRecord) (cause : Cause) (m w : Emission) (b : Bool) → Answer.Emits m ≡ answer_in d.setup cause d.kept → (IsTrue b ↔ (m ≡ w))
+    → WhereStands d (λ setup opening mine. IsTrue b ↔ (device_answer setup opening cause mine ≡ Answer.Emits w))
+wanted_answers d cause m w b is same setup opening mine stands =
+    let emits = answers_are d cause (Answer.Emits m) is setup opening mine stands in
+    (λ so. sym emits ∙ ap Answer.Emits (same.0 so), λ wants. same.1 (ap (emission_or m) (emits ∙ wants)))
+
+refusal_emits_none : (r : DeviceRefusal) (w : Emission) (memory : List Bytes64) → decided memory (Err r) ≡ Answer.Emits w → ⊥
+refusal_emits_none (DeviceRefusal.NoCredit c) w memory is = cc
+refusal_emits_none (DeviceRefusal.Broken rule) w memory is = cc
+
+-- no refusal is wanted
+pub refusal_is_unwanted : (d : AgentRecord) (cause : Cause) (r : DeviceRefusal) (w : Emission) (o : Result Decision DeviceRefusal) → o ≡ Err r → decided d.kept.memory o ≡ answer_in d.setup cause d.kept
+    → WhereStands d (λ setup opening mine. IsTrue false ↔ (device_answer setup opening cause mine ≡ Answer.Emits w))
+refusal_is_unwanted d cause r w o is same setup opening mine stands = (
+  λ no. absurd (false≢true no),
+  λ wants. absurd (refusal_emits_none r w d.kept.memory (ap (decided d.kept.memory) (sym is) ∙ answers_are d cause (decided d.kept.memory o) same setup opening mine stands ∙ wants)),
+)
+
+-- the agent stands for its list with the wanted event too
+pub wanted_stands : (d later : AgentRecord) (cause : Cause) (m w : Emission) → Answer.Emits m ≡ answer_in d.setup cause d.kept → later ≡ record d { kept = device_after d.setup cause m.sends d.kept } → m ≡ w
+    → WhereStands d (λ setup opening mine. IsTrue true → StandsFor later setup opening (event_with device cause w ∷ mine))
+wanted_stands d later cause m w is after same setup opening mine stands so =
+    subst (λ (x : Emission). StandsFor later setup opening (event_with device cause x ∷ mine)) same (stands_after d later cause m is after setup opening mine stands)
+
+-- the event that was made is wanted exactly where what was decided is
+pub made_is_wanted : (cause : Cause) (m w : Emission) (e : Event) (b : Bool) → e ≡ event_with device cause m → (IsTrue b ↔ (emission_of e ≡ w)) → IsTrue b ↔ (m ≡ w)
+made_is_wanted cause m w e b event same = subst (λ (x : Emission). IsTrue b ↔ (x ≡ w)) (ap emission_of event) same

@@ -1,12 +1,12 @@
 // The device agent.
-ghost use Rattle.std.specs.Prelude.{◌≡◌, ◌<◌, ◌↔◌, ◌∷◌, [], Err, IfOk, OnErr, OnOk, false, length, slice_get};
+ghost use Rattle.std.specs.Prelude.{◌≡◌, ◌<◌, ◌↔◌, ◌∷◌, [], Err, IfOk, IsTrue, OnErr, OnOk, false, length, slice_get};
 ghost use Rattle.cxl_message.specs.Opening.{opening_fits};
 ghost use Rattle.coherence_model.specs.Directory.{is_busy as is_busy_in};
 ghost use Rattle.coherence_model.specs.DirectoryChanges.{directory};
 ghost use Rattle.coherence_model.specs.Memory.{memory as memory_of};
 ghost use Rattle.coherence_model.specs.Next.{event_with};
 ghost use Rattle.coherence_model.specs.Pending.{device_pending};
-ghost use Rattle.coherence_model.specs.Refusals.{device_answer};
+ghost use Rattle.coherence_model.specs.Refusals.{Answer, device_answer};
 ghost use Rattle.coherence_model.specs.Traces.{device};
 ghost use Rattle.coherence_model.specs.Weight.{device_weight};
 ghost use Rattle.device_engine.specs.Contract.{IsBy, StandsFor, WhereStands, acts_after, emission_of, made};
@@ -19,8 +19,8 @@ use device_acts::{act_at, act_count, pending, weight};
 use device_changes::change;
 use device_rows::{DeviceRefusal, answer_into};
 use device_state::{Tables, open_tables};
-use emissions::Emitted;
-use event_room::{CommitRef, EventRoom};
+use emissions::{Emitted, emits_same};
+use event_room::EventRoom;
 use std::alloc::Global;
 use std::marker::Model;
 
@@ -72,7 +72,7 @@ impl DeviceAgent {
     {
         let mut room = EventRoom::new();
         match self.would_into(cause, &mut room) {
-            Ok(()) => Ok(emitted(&room)),
+            Ok(()) => Ok(Emitted::of(&room)),
             Err(refusal) => Err(refusal),
         }
     }
@@ -87,7 +87,7 @@ impl DeviceAgent {
     {
         let mut room = EventRoom::new();
         match self.step_into(cause, &mut room) {
-            Ok(()) => Ok(emitted(&room)),
+            Ok(()) => Ok(Emitted::of(&room)),
             Err(refusal) => Err(refusal),
         }
     }
@@ -121,6 +121,27 @@ impl DeviceAgent {
                 Ok(())
             }
             Err(refusal) => Err(refusal),
+        }
+    }
+
+    /// Makes the event of a cause, where it sends and commits what the event in a room does, and goes on by it: the device stands for its
+    /// list with this event then. Else the answer is `false`, and the device doesn't change. The room `made` is written over with the event
+    /// that the cause would bring, if it brings one.
+    pub fn step_as(&mut self, cause: &Cause, wanted: &EventRoom, made: &mut EventRoom) -> bool
+        ensures answer { WhereStands self.old (λ setup opening mine. IsTrue result ↔ (device_answer setup opening cause.now mine ≡ Answer.Emits (emission_of wanted.now))) }
+        ensures goes_on { WhereStands self.old (λ setup opening mine. IsTrue result → StandsFor self.new setup opening (event_with device cause.now (emission_of wanted.now) ∷ mine)) }
+        ensures refused { result ≡ false → self.new ≡ self.old }
+        ensures setup { self.new.setup ≡ self.old.setup }
+    {
+        match answer_into(&self.tables, cause, made) {
+            Ok(decision) => {
+                if !emits_same(made, wanted) {
+                    return false;
+                }
+                change(&mut self.tables, cause, decision);
+                true
+            }
+            Err(_) => false,
         }
     }
 
@@ -183,15 +204,5 @@ impl DeviceAgent {
         ensures weight { WhereStands self.now (λ setup opening mine. result ≡ device_weight setup mine) }
     {
         weight(&self.tables)
-    }
-}
-
-/// What the event of a room sends and commits, by value.
-fn emitted(room: &EventRoom) -> Emitted
-    ensures { result ≡ emission_of room.now }
-{
-    Emitted {
-        sends: room.sends().sends(),
-        commit: room.commit().map(CommitRef::commit),
     }
 }

@@ -3,7 +3,7 @@ use cxl_message::{
     RuleNo, Sends, Setup, SnpType, Tag,
 };
 use device_engine::{DeviceAgent, DeviceRefusal, OpenDeviceRefusal};
-use event_room::EventRoom;
+use event_room::{EventRoom, MessageHead};
 use std::process::Abort;
 use std::test::Fail;
 
@@ -132,6 +132,27 @@ fn an_event_is_made_in_its_room_and_a_refusal_leaves_it(rt: HostRuntime) -> Resu
     let refused = device.step_into(&cause, &mut room);
     assert_eq!(rt; refused, Err(DeviceRefusal::Broken(RuleNo::V1)));
     assert_eq!(rt; room.event().cause, cause);
+    Ok(())
+}
+
+#[test]
+fn an_event_is_made_as_wanted_or_not_at_all(rt: HostRuntime) -> Result<(), Fail> {
+    let setup = small().expect(&rt, "a setup");
+    let opening = Opening::new(rt.alloc());
+    let mut device = DeviceAgent::open(rt.alloc(), &setup, &opening)?;
+    let mut made = EventRoom::new();
+    let mut wanted = EventRoom::new();
+    let cause = take(read(2, 3));
+    wanted.send(
+        2,
+        MessageHead::Credit {
+            channel: Channel::Req,
+        },
+    );
+    assert!(rt; !device.step_as(&cause, &wanted, &mut made));
+    assert!(rt; !device.pending());
+    assert!(rt; device.step_as(&cause, &EventRoom::new(), &mut made));
+    assert!(rt; device.pending());
     Ok(())
 }
 

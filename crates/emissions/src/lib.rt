@@ -2,8 +2,10 @@
 #![tactic(auto)]
 
 mod emitted;
+mod rooms;
 
 pub use emitted::Emitted;
+pub use rooms::emits_same;
 
 #[cfg(test)]
 mod tests;

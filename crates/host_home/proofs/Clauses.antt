@@ -1,8 +1,8 @@
 -- The public clauses of an agent follow from what its body does by its record, by the laws of the record.
-use Rattle.std.proofs.Common.{List, [], ap, length, refl, subst, sym, ℕ, ◌<◌, ◌∙◌, ◌∷◌, ◌≡◌}
-use Rattle.std.specs.Prelude.{Err, IfOk, Ok, OnErr, Result, is_some, slice_get}
+use Rattle.std.proofs.Common.{Bool, IsTrue, List, [], ap, false, length, refl, subst, sym, true, ℕ, ◌<◌, ◌∙◌, ◌∷◌, ◌≡◌}
+use Rattle.std.specs.Prelude.{Err, IfOk, Ok, OnErr, Result, is_some, slice_get, ◌↔◌}
 use Rattle.std.specs.List.{list_any}
-use Rattle.std.proofs.lemmas.Bool.{lt-ltb}
+use Rattle.std.proofs.lemmas.Bool.{false≢true, lt-ltb}
 use Rattle.cxl_message.specs.declared.events.Act.{Act}
 use Rattle.cxl_message.specs.declared.events.Cause.{Cause}
 use Rattle.cxl_message.specs.declared.events.Event.{Event}
@@ -25,7 +25,7 @@ use Rattle.host_record.proofs.Opened.{records_begin}
 use Rattle.host_laws.proofs.Laws.{own_runs_go_on, records_act, records_answer, records_follow, records_view}
 use Rattle.host_laws.proofs.Readings.{records_open, records_pend, records_weigh}
 use Rattle.host_acts.specs.Counting.{acts_of_agent}
-use Rattle.host_home.specs.Contract.{StandsFor, answered_by}
+use Rattle.host_home.specs.Contract.{StandsFor, WhereStands, answered_by}
 use Rattle.host_rows.specs.declared.answers.HostRefusal.{HostRefusal}
 use Rattle.host_rows.specs.Answers.{as_result, emission_in, told}
 use Rattle.host_tables.specs.Agent.{AgentRecord, agent_after, event_of, opened_agent}
@@ -101,7 +101,38 @@ value_stands old new cause e (Ok x) u w setup h mine s is same agent cause_is st
     (subst (λ y. StandsFor new setup h (y ∷ mine)) (event_is e h cause (agent ∙ host_is old setup h mine s) cause_is) stands)
 value_stands old new cause e (Err refusal) u w setup h mine s is same agent cause_is stands = cc
 
+-- ---- a step that is wanted
+
+-- what is answered is wanted exactly where both are the same
+pub emits_as : (r : Result Emission HostRefusal) (m w : Emission) (b : Bool) → Ok m ≡ r → (IsTrue b ↔ (m ≡ w)) → IsTrue b ↔ (r ≡ Ok w)
+emits_as r m w b is same = (λ so. sym is ∙ ap {B = Result Emission HostRefusal} Ok (same.0 so), λ wants. same.1 (ap (ok_or m) (is ∙ wants)))
+
+-- no refusal is wanted
+pub emits_none : (r : Result Emission HostRefusal) (refusal : HostRefusal) (w : Emission) → Err refusal ≡ r → IsTrue false ↔ (r ≡ Ok w)
+emits_none r refusal w is = (λ no. absurd (false≢true no), λ wants. let both : ◌≡◌ {A = Result Emission HostRefusal} (Err refusal) (Ok w) = is ∙ wants in absurd cc)
+
+-- the model's answer is wanted where what is answered by what is kept is
+pub wanted_answers :
+    (agent : AgentRecord) (cause : Cause) (w : Emission) (b : Bool) → (IsTrue b ↔ (answered_by agent cause ≡ Ok w))
+    → WhereStands agent (λ setup h mine. IsTrue b ↔ (host_answer setup h cause mine ≡ Answer.Emits w))
+wanted_answers agent cause w b is setup h mine s =
+    let same = would_answers agent cause setup h mine s in
+    (λ so. emits_by (host_answer setup h cause mine) w (sym same ∙ is.0 so), λ emits. is.1 (same ∙ ap as_result emits))
+
+-- and the agent stands for the wanted event too
+pub wanted_stands :
+    (old new : AgentRecord) (cause : Cause) (w : Emission) (b : Bool) → (IsTrue b ↔ (answered_by old cause ≡ Ok w)) → (IsTrue b → new ≡ agent_after cause w old)
+    → WhereStands old (λ setup h mine. IsTrue b → StandsFor new setup h (event_of h cause w ∷ mine))
+wanted_stands old new cause w b is changed setup h mine s so = event_stands old new cause w setup h mine s (is.0 so) (changed so)
+
 -- ---- what stays
+
+-- where an agent changes by a cause, or doesn't, its setup and its host stay
+pub wanted_stays :
+    (old new : AgentRecord) (cause : Cause) (w : Emission) (b : Bool) → (IsTrue b → new ≡ agent_after cause w old) → (b ≡ false → new ≡ old)
+    → (new.setup ≡ old.setup) × (new.host ≡ old.host)
+wanted_stays old new cause w true goes stays = (ap (λ (x : AgentRecord). x.setup) (goes refl), ap (λ (x : AgentRecord). x.host) (goes refl))
+wanted_stays old new cause w false goes stays = (ap (λ (x : AgentRecord). x.setup) (stays refl), ap (λ (x : AgentRecord). x.host) (stays refl))
 
 pub setup_stays :
     (old new : AgentRecord) (cause : Cause) (w : Emission) (r : Result (Unit {0}) HostRefusal) → IfOk r (λ u. new ≡ agent_after cause w old) → OnErr r (new ≡ old)

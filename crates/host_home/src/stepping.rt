@@ -1,12 +1,11 @@
 // What an agent answers to a cause, and the step that makes its event.
-ghost use Rattle.std.specs.Prelude.{◌≡◌, ◌∷◌, IfOk, OnErr};
-ghost use Rattle.coherence_model.specs.Refusals.{host_answer};
+ghost use Rattle.std.specs.Prelude.{◌≡◌, ◌↔◌, ◌∷◌, IfOk, IsTrue, OnErr, false};
+ghost use Rattle.coherence_model.specs.Refusals.{Answer, host_answer};
 ghost use Rattle.host_home.specs.Contract.{StandsFor, WhereStands};
-ghost use Rattle.host_rows.specs.Answers.{as_result, told};
+ghost use Rattle.host_rows.specs.Answers.{as_result, emission_in, told};
 ghost use Rattle.host_tables.specs.Agent.{event_of};
 
 use crate::agent::HostAgent;
-use crate::events::emitted;
 use cxl_message::Cause;
 use emissions::Emitted;
 use event_room::EventRoom;
@@ -42,6 +41,19 @@ impl HostAgent {
         self.step_cause(cause, room)
     }
 
+    /// Makes the event of a cause where it sends and commits what the event in a room does, and stands for the own events with it then;
+    /// else the answer is `false`, and nothing changes. The room `made` is written over with the event that the host answers, if it
+    /// answers with one (own rule). It takes no memory.
+    pub fn step_as(&mut self, cause: &Cause, wanted: &EventRoom, made: &mut EventRoom) -> bool
+        ensures answer { WhereStands self.old (λ setup h mine. IsTrue result ↔ (host_answer setup h cause.now mine ≡ Answer.Emits (emission_in wanted.now))) }
+        ensures goes_on { WhereStands self.old (λ setup h mine. IsTrue result → StandsFor self.new setup h (event_of h cause.now (emission_in wanted.now) ∷ mine)) }
+        ensures refused { result ≡ false → self.new ≡ self.old }
+        ensures setup { self.new.setup ≡ self.old.setup }
+        ensures host { self.new.host ≡ self.old.host }
+    {
+        self.step_cause_as(cause, wanted, made)
+    }
+
     /// What the host would send and commit for a cause, or its first refusal: for an operation NoSuchLine, Again, NoTag, NoWay,
     /// NoCredit, Broken(P0), Broken(S0); for a take or an act Broken(P0), Broken(the row), NoCredit (own rule: the order). It changes
     /// nothing and takes no memory.
@@ -50,7 +62,7 @@ impl HostAgent {
     {
         let mut room = EventRoom::new();
         match self.would_into(cause, &mut room) {
-            Ok(()) => Ok(emitted(&room)),
+            Ok(()) => Ok(Emitted::of(&room)),
             Err(refusal) => Err(refusal),
         }
     }
@@ -66,7 +78,7 @@ impl HostAgent {
     {
         let mut room = EventRoom::new();
         match self.step_into(cause, &mut room) {
-            Ok(()) => Ok(emitted(&room)),
+            Ok(()) => Ok(Emitted::of(&room)),
             Err(refusal) => Err(refusal),
         }
     }

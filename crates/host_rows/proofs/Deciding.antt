@@ -1,6 +1,6 @@
 -- What rows answer, by what their decisions emit.
 use Rattle.std.proofs.Common.{Bool, List, None, Option, Some, ap, cond, false, refl, sym, true, ℕ, ◌∙◌, ◌≡◌}
-use Rattle.std.specs.Prelude.{Err, Ok, Result, ◌&&◌, ◌==◌}
+use Rattle.std.specs.Prelude.{Err, Ok, Result, ◌&&◌}
 use Rattle.std.specs.Option.{option_map_or, option_or}
 use Rattle.std.proofs.lemmas.Bool.{eq-eqb}
 use Rattle.cxl_message.specs.declared.channels.Channel.{Channel}
@@ -24,7 +24,7 @@ use Rattle.coherence_model.specs.Transactions.{Transaction}
 use Rattle.event_room.specs.declared.messages.MessageHead.{MessageHead}
 use Rattle.event_room.specs.Heads.{with_payload}
 use Rattle.host_plans.specs.declared.plans.Plan.{Plan}
-use Rattle.host_plans.specs.Plans.{eviction_in, planned_emission}
+use Rattle.host_plans.specs.Plans.{planned_emission}
 use Rattle.host_record.specs.HostRecord.{HostRecord}
 use Rattle.host_record.specs.Tables.{lookup}
 use Rattle.host_record.specs.View.{View}

@@ -1,5 +1,5 @@
 -- What a grant performs where the MemData was taken before.
-use Rattle.std.proofs.Common.{None, Option, Some, ap, refl, sym, ◌∙◌, ◌≡◌}
+use Rattle.std.proofs.Common.{Some, ap, sym, ◌∙◌, ◌≡◌}
 use Rattle.std.specs.Option.{option_map_or}
 use Rattle.cxl_message.specs.declared.identifiers.Bytes64.{Bytes64}
 use Rattle.coherence_model.specs.Emission.{nothing}

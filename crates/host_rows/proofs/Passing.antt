@@ -1,5 +1,5 @@
 -- What it says of a message that its take passes and its row holds: its lines are low, and there is room for it.
-use Rattle.std.proofs.Common.{Bool, None, Option, Some, ap, arith, false, length, refl, sym, true, ℕ, ◌+◌, ◌∙◌, ◌≡◌, ◌≤◌}
+use Rattle.std.proofs.Common.{Bool, None, Option, Some, arith, false, length, refl, sym, true, ℕ, ◌+◌, ◌≡◌, ◌≤◌}
 use Rattle.std.specs.Prelude.{is_some, nat_le, nat_lt, option_map, ◌&&◌}
 use Rattle.std.proofs.lemmas.Bool.{and_parts, false≢true, leb-true, ltb-true}
 use Rattle.std.proofs.lemmas.Option.{none-some}

@@ -1,3 +1,4 @@
 pub mod Answers
+pub mod Going
 pub mod Messages
 pub mod Rows

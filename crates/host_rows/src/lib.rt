@@ -17,6 +17,5 @@ mod taking;
 pub use acting::act_row;
 pub use answers::HostRefusal;
 pub use crediting::lacking;
-pub use operating::{answer_operation, step_operation};
-pub use stepping::{answer_act, answer_take, step_act, step_take};
+pub use stepping::{answer_into, change};
 pub use taking::{TakeRow, take_row};

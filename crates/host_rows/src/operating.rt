@@ -9,7 +9,7 @@ ghost use Rattle.host_record.specs.ViewRows.{is_dirty};
 ghost use Rattle.host_record.specs.Ways.{copy_in};
 ghost use Rattle.host_rows.specs.Answers.{as_result, emission_in, refused_as, told};
 ghost use Rattle.host_rows.specs.Rows.{decided, refusal_of_plan, short_of_plan as short_of_planned};
-ghost use Rattle.host_tables.specs.Agent.{agent_after, event_of};
+ghost use Rattle.host_tables.specs.Agent.{event_of};
 ghost use Rattle.host_tables.specs.Operating.{GoesOn};
 
 use crate::answers::HostRefusal;
@@ -24,7 +24,7 @@ use profile_rules::cause_passes;
 /// Writes the event of an operation into a room, and gives its plan; or its first refusal, which leaves the room as it was: NoSuchLine,
 /// Again, NoTag, NoWay, NoCredit, Broken(P0), Broken(S0).
 #[tactic(auto, using(crate::proofs::Planned::goes_as))]
-pub fn answer_operation(
+pub(crate) fn answer_operation(
     agent: &HostTables,
     cause: &Cause,
     stream: u8,
@@ -43,32 +43,6 @@ pub fn answer_operation(
         Ok(plan) => {
             emit_operation(agent, plan, stream, index, op, room);
             Ok(plan)
-        }
-        Err(refusal) => Err(refusal),
-    }
-}
-
-/// Makes the event of an operation where it is allowed; else it is refused as by `answer_operation`, and nothing changes.
-#[tactic(auto, using(crate::proofs::Planned::goes_as))]
-pub fn step_operation(
-    agent: &mut HostTables,
-    cause: &Cause,
-    stream: u8,
-    index: u32,
-    op: &Op,
-    room: &mut EventRoom,
-) -> Result<(), HostRefusal>
-    requires { cause.now ≡ TheCause.Op stream index op.now }
-    ensures answer { told result room.new ≡ as_result (operation_answer_by agent.old.setup agent.old.host stream index op.now (view_in agent.old.kept)) }
-    ensures event { IfOk result (λ u. room.new ≡ event_of agent.old.host (TheCause.Op stream index op.now) (emission_in room.new)) }
-    ensures changed { IfOk result (λ u. agent.new ≡ agent_after (TheCause.Op stream index op.now) (emission_in room.new) agent.old) }
-    ensures refused { OnErr result (agent.new ≡ agent.old) }
-    ensures room { OnErr result (room.new ≡ room.old) }
-{
-    match answer_operation(agent, cause, stream, index, op, room) {
-        Ok(plan) => {
-            agent.operate(plan, stream, index, op, room.sends(), room.commit());
-            Ok(())
         }
         Err(refusal) => Err(refusal),
     }

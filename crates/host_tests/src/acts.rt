@@ -1,7 +1,7 @@
 use cxl_message::{Act, BiTag, Cause, Channel, Line, Message, Setup, SnpOp, Span};
 use event_room::EventRoom;
 use host_acts::{act_at, act_count, weight};
-use host_rows::{HostRefusal, step_act, step_take};
+use host_rows::{HostRefusal, answer_into, change};
 use host_tables::HostTables;
 use std::test::Fail;
 
@@ -13,20 +13,21 @@ const SNOOP: Message = Message::BiSnp {
     span: Span::One,
 };
 
+/// Makes the event of a cause.
+fn steps(host: &mut HostTables, cause: &Cause) -> Result<(), HostRefusal> {
+    let mut room = EventRoom::new();
+    let plan = answer_into(host, cause, &mut room)?;
+    change(host, cause, plan, &room);
+    Ok(())
+}
+
 /// Takes the snoop.
 fn snooped(host: &mut HostTables) -> Result<(), HostRefusal> {
-    let mut room = EventRoom::new();
     let cause = Cause::Take {
         host: 0,
         message: SNOOP,
     };
-    step_take(host, &cause, 0, &SNOOP, &mut room)
-}
-
-/// Does an act.
-fn does(host: &mut HostTables, act: &Act) -> Result<(), HostRefusal> {
-    let mut room = EventRoom::new();
-    step_act(host, act, &mut room)
+    steps(host, &cause)
 }
 
 #[test]
@@ -40,7 +41,7 @@ fn acts_are_counted_and_picked_in_their_order(rt: HostRuntime) -> Result<(), Fai
     assert_eq!(rt; act_count(&host), 1);
     assert_eq!(rt; act_at(&host, 0), Some(Act::Answer(Line(3))));
     assert_eq!(rt; act_at(&host, 1), None);
-    does(&mut host, &Act::Answer(Line(3)))?;
+    steps(&mut host, &Cause::Act(Act::Answer(Line(3))))?;
     assert_eq!(rt; act_count(&host), 1);
     assert_eq!(rt; act_at(&host, 0), Some(Act::HostReturn(Channel::BiSnp)));
     assert_eq!(rt; weight(&host), 2);

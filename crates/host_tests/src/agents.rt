@@ -234,6 +234,20 @@ fn acknowledged(host: &mut HostAgent, tag: u32, line: u32, low: u8) -> bool {
 }
 
 #[test]
+fn an_event_is_made_as_wanted_or_not_at_all(rt: HostRuntime) {
+    let Some(mut host) = opened(rt.alloc(), 4, 1, 2, 2, &[0]) else {
+        return assert!(rt; false);
+    };
+    let mut wanted = EventRoom::new();
+    let mut made = EventRoom::new();
+    assert!(rt; !host.step_as(&load(0, 0, 3), &wanted, &mut made));
+    assert_eq!(rt; host.stream_next(0), 0);
+    assert!(rt; host.would_into(&load(0, 0, 3), &mut wanted).is_ok());
+    assert!(rt; host.step_as(&load(0, 0, 3), &wanted, &mut made));
+    assert_eq!(rt; host.stream_next(0), 1);
+}
+
+#[test]
 fn the_other_order_at_one_agent(rt: HostRuntime) {
     let Some(mut host) = opened(rt.alloc(), 2, 1, 2, 2, &[0]) else {
         return assert!(rt; false);

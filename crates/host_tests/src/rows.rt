@@ -4,10 +4,7 @@ use cxl_message::{
 };
 use event_room::{CommitRef, EventRoom, MessageHead};
 use host_plans::Plan;
-use host_rows::{
-    HostRefusal, act_row, answer_act, answer_operation, answer_take, lacking, step_act,
-    step_operation, step_take,
-};
+use host_rows::{HostRefusal, act_row, answer_into, change, lacking};
 use host_tables::HostTables;
 use std::alloc::Global;
 use std::test::Fail;
@@ -60,33 +57,25 @@ fn opened(alloc: Global) -> Option<HostTables> {
     HostTables::open(alloc, &setup, 0).ok()
 }
 
-/// The plan of the stream's first operation, whose event goes into the room.
-fn planned(host: &HostTables, op: &Op, room: &mut EventRoom) -> Result<Plan, HostRefusal> {
-    let cause = Cause::Op {
+/// The stream's first operation.
+fn operation(op: &Op) -> Cause {
+    Cause::Op {
         stream: 0,
         index: 0,
         op: *op,
-    };
-    answer_operation(host, &cause, 0, 0, op, room)
+    }
+}
+
+/// Makes the event of a cause.
+fn steps(host: &mut HostTables, cause: &Cause, room: &mut EventRoom) -> Result<(), HostRefusal> {
+    let plan = answer_into(host, cause, room)?;
+    change(host, cause, plan, room);
+    Ok(())
 }
 
 /// Begins the stream's first operation.
 fn operates(host: &mut HostTables, op: &Op, room: &mut EventRoom) -> Result<(), HostRefusal> {
-    let cause = Cause::Op {
-        stream: 0,
-        index: 0,
-        op: *op,
-    };
-    step_operation(host, &cause, 0, 0, op, room)
-}
-
-/// Foretells the take of a message of host 0.
-fn may_take(host: &HostTables, message: &Message, room: &mut EventRoom) -> bool {
-    let cause = Cause::Take {
-        host: 0,
-        message: *message,
-    };
-    answer_take(host, &cause, 0, message, room).is_ok()
+    steps(host, &operation(op), room)
 }
 
 /// Takes a message of a host.
@@ -100,7 +89,7 @@ fn takes(
         host: from,
         message: *message,
     };
-    step_take(host, &cause, from, message, room)
+    steps(host, &cause, room)
 }
 
 /// Whether the event in a room sends this and nothing else.
@@ -108,23 +97,15 @@ fn sends(room: &EventRoom, wanted: &Sends) -> bool {
     room.sends().sends() == *wanted
 }
 
-/// Gives the credit for a message of the NDR channel back, as it is foretold.
-fn returns(host: &mut HostTables, room: &mut EventRoom) -> Result<(), HostRefusal> {
-    let channel = Channel::Ndr;
-    answer_act(host, &Act::HostReturn(channel), room)?;
-    step_act(host, &Act::HostReturn(channel), room)
-}
-
 #[test]
 fn a_load_is_requested_granted_and_filled(rt: HostRuntime) -> Result<(), Fail> {
     let mut host = opened(rt.alloc()).ok_or("a host")?;
     let mut room = EventRoom::new();
-    let plan = planned(&host, &LOAD, &mut room)?;
-    assert_eq!(rt; plan, Plan::Request { tag: Tag(0) });
+    let plan = answer_into(&host, &operation(&LOAD), &mut room)?;
+    assert_eq!(rt; plan, Some(Plan::Request { tag: Tag(0) }));
     assert!(rt; sends(&room, &Sends::One(REQUEST)));
     operates(&mut host, &LOAD, &mut room)?;
     assert!(rt; sends(&room, &Sends::One(REQUEST)));
-    assert!(rt; may_take(&host, &GRANT, &mut room));
     takes(&mut host, 0, &GRANT, &mut room)?;
     assert!(rt; sends(&room, &Sends::Nothing));
     takes(&mut host, 0, &DATA, &mut room)?;
@@ -149,7 +130,7 @@ fn the_credit_of_a_grant_is_given_back(rt: HostRuntime) -> Result<(), Fail> {
     let head = MessageHead::Credit { channel };
     assert_eq!(rt; act_row(&host, &Act::HostReturn(channel)), Some(head));
     assert_eq!(rt; lacking(&host, head), None);
-    returns(&mut host, &mut room)?;
+    steps(&mut host, &Cause::Act(Act::HostReturn(channel)), &mut room)?;
     let message = Message::Credit { channel };
     assert!(rt; sends(&room, &Sends::One(Out { host: 0, message })));
     Ok(())
@@ -165,7 +146,8 @@ fn what_is_refused_changes_nothing(rt: HostRuntime) -> Result<(), Fail> {
     let h3 = HostRefusal::Broken(RuleNo::H3);
     assert!(rt; takes(&mut host, 0, &GRANT, &mut room) == Err(h3));
     let h7 = HostRefusal::Broken(RuleNo::H7);
-    assert!(rt; step_act(&mut host, &Act::Conflict(Line(3)), &mut room) == Err(h7));
+    let conflict = Cause::Act(Act::Conflict(Line(3)));
+    assert!(rt; steps(&mut host, &conflict, &mut room) == Err(h7));
     assert_eq!(rt; room.agent(), 0);
     operates(&mut host, &LOAD, &mut room)?;
     assert!(rt; sends(&room, &Sends::One(REQUEST)));

@@ -10,7 +10,7 @@ pub returns-in-Ok : goal.returns-in-Ok
 returns-in-Ok c =
     let e = c.would_into.new.room in
     record {
-      answer = where_same c.args.self.now c.args.cause.now (Answer.Emits c.emitted.result) (made c.would_into.result e) (answered_as c.emitted.result e c.would_into.result c.in-Ok.is c.emitted.ensures) c.would_into.ensures.answer;
+      answer = where_same c.args.self.now c.args.cause.now (Answer.Emits c.of.result) (made c.would_into.result e) (answered_as c.of.result e c.would_into.result c.in-Ok.is c.of.ensures) c.would_into.ensures.answer;
     }
 
 pub returns-in-Err : goal.returns-in-Err

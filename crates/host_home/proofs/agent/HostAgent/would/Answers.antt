@@ -6,7 +6,7 @@ use Rattle.host_home.proofs.agent.HostAgent.would.Goals as goal
 
 pub returns-in-Ok : goal.returns-in-Ok
 returns-in-Ok c = record {
-  answer = λ setup h mine s. ap Ok c.emitted.ensures ∙ ap (λ r. told r c.would_into.new.room) (sym c.in-Ok.is) ∙ c.would_into.ensures.answer setup h mine s;
+  answer = λ setup h mine s. ap Ok c.of.ensures ∙ ap (λ r. told r c.would_into.new.room) (sym c.in-Ok.is) ∙ c.would_into.ensures.answer setup h mine s;
 }
 
 pub returns-in-Err : goal.returns-in-Err
