@@ -27,7 +27,8 @@ use Rattle.coherence_model.specs.Traces.{events_of}
 use Rattle.answer_laws.specs.Answered.{emitted_of}
 use Rattle.answer_laws.proofs.Answers.{answer_is_row}
 use Rattle.host_rows.specs.Answers.{as_result}
-use Rattle.machine.specs.Offers.{as_event, offered_at}
+use Rattle.machine_agents.specs.Going.{as_event}
+use Rattle.machine.specs.Offers.{offered_at}
 use Rattle.machine.specs.Stands.{MachineRecord, WhereStands}
 use Rattle.progress_laws.proofs.SnoopTakes.{snoops_known}
 use Rattle.progress_laws.proofs.StuckOpen.{nothing_pending}

@@ -22,7 +22,8 @@ use Rattle.driven_laws.specs.Scripts.{IsDrivable}
 use Rattle.host_rows.specs.declared.answers.HostRefusal.{HostRefusal}
 use Rattle.host_rows.specs.Answers.{as_result}
 use Rattle.link_queues.proofs.Parts.{get_left, get_right}
-use Rattle.machine.specs.Offers.{as_event, offered, offered_at}
+use Rattle.machine_agents.specs.Going.{as_event}
+use Rattle.machine.specs.Offers.{offered, offered_at}
 use Rattle.machine.specs.Stands.{MachineRecord, WhereStands}
 use Rattle.cxlmem.proofs.Scans.{offers_from}
 use Rattle.cxlmem.specs.Driver.{IsKept, IsNext}

@@ -3,12 +3,14 @@
 #![tactic(auto)]
 
 mod channels;
+mod counted;
 mod laws;
 mod links;
 mod matching;
 mod queues;
 mod weights;
 
+pub use counted::CountedLinks;
 pub use laws::flight_goes_on;
 pub use links::LinkQueues;
 

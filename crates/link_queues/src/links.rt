@@ -75,6 +75,7 @@ impl LinkQueues {
     pub fn takeable_count(&self, host: u8) -> u32
         requires { host < self.now.hosts }
         ensures count { WhereHolds self.now (λ setup t. result ≡ length (takeable_of host t)) }
+        ensures waiting { result ≡ length (takeable_on self.now host) }
         ensures most { result ≤ 1536 }
     {
         self.count_on(host)

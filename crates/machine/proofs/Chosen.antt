@@ -17,7 +17,7 @@ use Rattle.answer_laws.specs.Answered.{agent_answer, emission_of}
 use Rattle.next_laws.specs.Told.{steps_told, told}
 use Rattle.next_laws.proofs.Steps.{next_is_allowed, next_steps_are_answered, next_steps_are_told}
 use Rattle.machine.specs.declared.steps.Step.{Step}
-use Rattle.machine.specs.Going.{MakesAnswer}
+use Rattle.machine_agents.specs.Going.{MakesAnswer}
 use Rattle.machine.specs.Stands.{MachineRecord, StandsFor, StandsForSome, WhereStands}
 use Rattle.machine.specs.Steps.{IsChoice, IsStepAt, parts_of}
 use Rattle.machine.proofs.Judged.{agent_is_host}

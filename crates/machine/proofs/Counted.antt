@@ -11,7 +11,8 @@ use Rattle.coherence_model.specs.Traces.{device, events_of}
 use Rattle.bound_laws.proofs.Few.{next_steps_are_few}
 use Rattle.next_laws.specs.Told.{act_told, device_acts_told, host_acts_told, steps_told, takes_told, told}
 use Rattle.next_laws.proofs.Steps.{next_steps_are_told}
-use Rattle.device_engine.specs.Contract.{StandsFor as DeviceStandsFor, WhereStands as WhereDeviceStands, acts_after as device_acts_after}
+use Rattle.device_engine.specs.Contract.{StandsFor as DeviceStandsFor, acts_after as device_acts_after}
+use Rattle.machine_agents.specs.Going.{HasDeviceActs}
 use Rattle.device_state.specs.Agent.{AgentRecord as DeviceRecord}
 use Rattle.machine.specs.Stands.{MachineRecord, StandsForSome, WhereStands}
 use Rattle.machine.specs.Steps.{host_acts_below, takes_below}
@@ -77,7 +78,7 @@ acts_fit m h n c some low before here =
 pub steps_add_up : (m : MachineRecord) (d : DeviceRecord) (x y z : ℕ) → WhereStands m (λ setup opening t. x ≡ length (takes_below t setup.hosts))
     → WhereStands m (λ setup opening t. y ≡ length (host_acts_below setup t setup.hosts))
     → WhereStands m (λ setup opening t. DeviceStandsFor d setup opening (events_of device t))
-    → WhereDeviceStands d (λ setup opening mine. z ≡ length (device_acts_after setup opening mine)) → WhereStands m (λ setup opening t. (x + y) + z ≡ length (next_steps setup opening t))
+    → HasDeviceActs d z → WhereStands m (λ setup opening t. (x + y) + z ≡ length (next_steps setup opening t))
 steps_add_up m d x y z takes acts agent dev setup opening t stands =
     let a = takes setup opening t stands in
     let b = acts setup opening t stands in
@@ -90,7 +91,7 @@ steps_add_up m d x y z takes acts agent dev setup opening t stands =
 pub steps_fit : (m : MachineRecord) (d : DeviceRecord) (x y z : ℕ) → StandsForSome m → WhereStands m (λ setup opening t. x ≡ length (takes_below t setup.hosts))
     → WhereStands m (λ setup opening t. y ≡ length (host_acts_below setup t setup.hosts))
     → WhereStands m (λ setup opening t. DeviceStandsFor d setup opening (events_of device t))
-    → WhereDeviceStands d (λ setup opening mine. z ≡ length (device_acts_after setup opening mine)) → (x + y) + z ≤ 1200000
+    → HasDeviceActs d z → (x + y) + z ≤ 1200000
 steps_fit m d x y z some takes acts agent dev =
     let sum = steps_add_up m d x y z takes acts agent dev m.setup some.opening some.t some.stands in
     let few = next_steps_are_few m.setup some.opening some.stands.within some.t some.stands.run in

@@ -15,7 +15,7 @@ use Rattle.coherence_model.specs.Runs.{IsRun, first_broken, is_allowed, is_run}
 use Rattle.coherence_model.specs.Traces.{device, events_of}
 use Rattle.coherence_model.proofs.Allowed.{allowed_breaks_no_rule, allowed_own, own_half_parts}
 use Rattle.coherence_lemmas.proofs.OwnEvents.{events_of-foreign, events_of-own}
-use Rattle.answer_laws.specs.Answered.{emission_of}
+use Rattle.answer_laws.specs.Answered.{emission_of, is_answered}
 use Rattle.answer_laws.proofs.Events.{allowed_is_emitted}
 use Rattle.device_engine.specs.Contract.{StandsFor as DeviceStandsFor}
 use Rattle.device_state.specs.Agent.{AgentRecord as DeviceRecord}
@@ -23,9 +23,11 @@ use Rattle.host_home.specs.Contract.{StandsFor as HostStandsFor}
 use Rattle.host_tables.specs.Agent.{AgentRecord as HostRecord}
 use Rattle.link_queues.specs.Links.{HasRoomFor, LinkRecord, TakesFromHost, after_cause, after_sends}
 use Rattle.link_queues.proofs.Going.{flight_goes_on, sends_have_room as room_is_there, takes_are_there as hosts_are_there}
-use Rattle.machine.specs.Going.{DeviceGoesOn, HostGoesOn}
+use Rattle.machine.specs.Going.{KeepsFirstRules}
 use Rattle.machine.specs.Stands.{MachineRecord, StandsFor, StandsForSome, WhereStands, verdict}
-use Rattle.machine.proofs.Judged.{agent_is_host}
+use Rattle.machine_agents.specs.Going.{DeviceFollows, HostFollows}
+use Rattle.machine.proofs.Answered.{DeviceGoesOn, HostGoesOn, device_goes_on, device_tells, host_goes_on, host_tells}
+use Rattle.machine.proofs.Judged.{agent_is_host, breaks_nothing}
 
 -- what is refused
 pub some_is_refused : (m : MachineRecord) (e : Event) (rule : RuleNo) → WhereStands m (λ setup opening t. Some rule ≡ first_broken setup opening t e)
@@ -38,9 +40,14 @@ pub none_is_taken : (m : MachineRecord) (e : Event) → WhereStands m (λ setup 
 none_is_taken m e is setup opening t stands = ap verdict (is setup opening t stands)
 
 -- is allowed
-pub none_is_allowed : (m : MachineRecord) (e : Event) → WhereStands m (λ setup opening t. None ≡ first_broken setup opening t e)
+none_is_allowed : (m : MachineRecord) (e : Event) → WhereStands m (λ setup opening t. None ≡ first_broken setup opening t e)
     → WhereStands m (λ setup opening t. IsTrue (is_allowed setup opening t e))
 none_is_allowed m e is setup opening t stands = allowed_breaks_no_rule setup opening t e ∙ ap is_none (sym (is setup opening t stands))
+
+-- an event that keeps the first rules and that its agent answers with is allowed
+pub answered_is_next : (m : MachineRecord) (e : Event) → KeepsFirstRules m e → WhereStands m (λ setup opening t. true ≡ is_answered setup opening e (events_of e.agent t))
+    → WhereStands m (λ setup opening t. IsTrue (is_allowed setup opening t e))
+answered_is_next m e keeps answered = none_is_allowed m e (breaks_nothing m e keeps.profile keeps.takeable keeps.order answered)
 
 -- it is an event after which the machine may go on
 abbrev pub IsNext : MachineRecord → Event → Type 0
@@ -174,3 +181,68 @@ pub some_at_host : (m : MachineRecord) (e : Event) (hosts : List HostRecord) (li
     → links ≡ after_sends e.sends (after_cause e.cause m.links) → StandsForSome (moved m hosts m.device links)
 some_at_host m e hosts links some next other count others goes links_are =
     record { opening = some.opening; t = e ∷ some.t; stands = goes_on_at_host m e hosts links next other count others goes links_are m.setup some.opening some.t some.stands }
+
+-- ---- an event that keeps the first rules and is followed
+
+-- what is known of an event of the device that is followed
+pub record FollowedAtDevice (m : MachineRecord) (e : Event) (new : DeviceRecord) : Type 0 where
+  pub next : IsNext m e
+  pub goes : DeviceGoesOn m.device new e
+
+pub followed_at_device : (m : MachineRecord) (e : Event) (new : DeviceRecord) (b : Bool) → KeepsFirstRules m e → is_device e.agent ≡ true → b ≡ true → DeviceFollows m.device new e.cause e b → FollowedAtDevice m e new
+followed_at_device m e new b keeps at so follows =
+    let same = subst (DeviceFollows m.device new e.cause e) so follows in
+    record { next = answered_is_next m e keeps (device_tells m new e true at same); goes = device_goes_on m.device new e same }
+
+-- the hosts follow an event at one of them
+pub record HostsFollow (old new : List HostRecord) (e : Event) (follows : Bool) : Type 0 where
+  pub count : length new ≡ length old
+  pub others : (k : ℕ) → (k ≡ e.agent → ⊥) → slice_get new k ≡ slice_get old k
+  pub followed : (a b : HostRecord) → slice_get old e.agent ≡ Some a → slice_get new e.agent ≡ Some b → HostFollows a b e.cause e follows
+
+-- they do where the event stands in a room
+pub hosts_follow : (old new : List HostRecord) (e x : Event) (follows : Bool) → x ≡ e → length new ≡ length old → ((k : ℕ) → (k ≡ e.agent → ⊥) → slice_get new k ≡ slice_get old k)
+    → ((a b : HostRecord) → slice_get old e.agent ≡ Some a → slice_get new e.agent ≡ Some b → HostFollows a b e.cause x follows) → HostsFollow old new e follows
+hosts_follow old new e x follows same count others followed = record {
+  count = count;
+  others = others;
+  followed = λ a b before after. subst (λ (y : Event). HostFollows a b e.cause y follows) same (followed a b before after);
+}
+
+-- and so does the device
+pub device_follows_room : (old new : DeviceRecord) (e x : Event) (follows : Bool) → x ≡ e → DeviceFollows old new e.cause x follows → DeviceFollows old new e.cause e follows
+device_follows_room old new e x follows same followed = subst (λ (y : Event). DeviceFollows old new e.cause y follows) same followed
+
+-- where no event is followed the machine is as it was
+pub stays_at_device : (m : MachineRecord) (new : DeviceRecord) (follows : Bool) → StandsForSome m → follows ≡ false → (follows ≡ false → new ≡ m.device) → StandsForSome (moved m m.hosts new m.links)
+stays_at_device m new follows some none stays = subst (λ (d : DeviceRecord). StandsForSome (moved m m.hosts d m.links)) (sym (stays none)) some
+
+pub stays_at_host : (m : MachineRecord) (new : List HostRecord) (follows : Bool) → StandsForSome m → follows ≡ false → (follows ≡ false → new ≡ m.hosts) → StandsForSome (moved m new m.device m.links)
+stays_at_host m new follows some none stays = subst (λ (hosts : List HostRecord). StandsForSome (moved m hosts m.device m.links)) (sym (stays none)) some
+
+-- the agent of an event that keeps P0 and isn't of the device is there
+pub host_is_there : (m : MachineRecord) (e : Event) → StandsForSome m → KeepsFirstRules m e → is_device e.agent ≡ false → e.agent < length m.hosts
+host_is_there m e some keeps other = subst (λ (n : ℕ). e.agent < n) (sym some.stands.host_count) (agent_is_host m e keeps.profile other)
+
+-- whether the hosts follow it is whether it is answered
+pub hosts_tell : (m : MachineRecord) (e : Event) (new : List HostRecord) (c : Bool) → StandsForSome m → KeepsFirstRules m e → is_device e.agent ≡ false → HostsFollow m.hosts new e c
+    → WhereStands m (λ setup opening t. c ≡ is_answered setup opening e (events_of e.agent t))
+hosts_tell m e new c some keeps other follow =
+    let low = host_is_there m e some keeps other in
+    let same = follow.count in
+    let a = some_there m.hosts e.agent low in
+    let b = some_there new e.agent (omega arith) in
+    host_tells m a.0 b.0 e c other a.1 (follow.followed a.0 b.0 a.1 b.1)
+
+-- what is known of an event of a host that is followed
+pub record FollowedAtHost (m : MachineRecord) (e : Event) (new : List HostRecord) : Type 0 where
+  pub next : IsNext m e
+  pub goes : (a b : HostRecord) → slice_get m.hosts e.agent ≡ Some a → slice_get new e.agent ≡ Some b → HostGoesOn a b e
+
+pub followed_at_host : (m : MachineRecord) (e : Event) (new : List HostRecord) (c : Bool) → StandsForSome m → KeepsFirstRules m e → is_device e.agent ≡ false → c ≡ true → HostsFollow m.hosts new e c → FollowedAtHost m e new
+followed_at_host m e new c some keeps other so follow =
+    let same = subst (HostsFollow m.hosts new e) so follow in
+    record {
+      next = answered_is_next m e keeps (hosts_tell m e new true some keeps other same);
+      goes = λ a b old there. host_goes_on a b e (same.followed a b old there);
+    }

@@ -1,8 +1,8 @@
 mod Seen
 mod Places
 mod Opened
-mod Answers
 mod Judged
+mod Answered
 mod Followed
 mod Told
 mod Numbered

@@ -16,9 +16,10 @@ use Rattle.host_tables.specs.Agent.{AgentRecord as HostRecord}
 use Rattle.link_queues.specs.Links.{HasRoomFor, LinkRecord, TakesFromHost, after_cause, after_sends}
 use Rattle.link_queues.proofs.Going.{takes_are_there as takes_there}
 use Rattle.machine.specs.declared.steps.Step.{Step}
-use Rattle.machine.specs.Going.{DeviceGoesOn, DevicePerforms, HostGoesOn, HostPerforms}
+use Rattle.machine_agents.specs.Going.{DevicePerforms, HostPerforms}
 use Rattle.machine.specs.Stands.{MachineRecord, StandsFor, StandsForSome, WhereStands}
 use Rattle.machine.specs.Steps.{IsStepAt}
+use Rattle.machine.proofs.Answered.{DeviceGoesOn, HostGoesOn}
 use Rattle.machine.proofs.Chosen.{agent_is_there, step_says}
 use Rattle.machine.proofs.Followed.{IsNext, goes_on_at_device, goes_on_at_host, moved, sends_have_room, some_at_device as some_after_device, some_at_host as some_after_host, some_there}
 

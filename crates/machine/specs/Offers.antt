@@ -1,21 +1,15 @@
 -- What a stream's next operation would be. All of it is an own rule.
-use Rattle.std.specs.Prelude.{Err, List, None, Ok, Option, Result, Some, ℕ}
+use Rattle.std.specs.Prelude.{Err, List, None, Option, Result, Some, ℕ}
 use Rattle.cxl_message.specs.declared.events.Cause.{Cause}
 use Rattle.cxl_message.specs.declared.events.Event.{Event}
 use Rattle.cxl_message.specs.declared.events.Op.{Op}
 use Rattle.cxl_message.specs.Setup.{Configuration, stream_host}
-use Rattle.coherence_model.specs.Emission.{Emission}
-use Rattle.coherence_model.specs.Next.{event_with}
 use Rattle.coherence_model.specs.Refusals.{host_answer}
 use Rattle.coherence_model.specs.Streams.{begun_count}
 use Rattle.coherence_model.specs.Traces.{events_of}
 use Rattle.host_rows.specs.declared.answers.HostRefusal.{HostRefusal}
 use Rattle.host_rows.specs.Answers.{as_result}
-
--- the event of a cause that a host answers, or its refusal
-abbrev pub as_event : ℕ → Cause → Result Emission HostRefusal → Result Event HostRefusal
-as_event h cause (Ok w) = Ok (event_with h cause w)
-as_event h cause (Err refusal) = Err refusal
+use Rattle.machine_agents.specs.Going.{as_event}
 
 -- what host h answers to the next operation of stream s, by its own events
 abbrev pub offered_by : Configuration → ℕ → ℕ → Op → List Event → Result Event HostRefusal

@@ -9,11 +9,11 @@ ghost use Rattle.device_engine.specs.Contract.{StandsFor as DeviceStandsFor};
 ghost use Rattle.host_home.specs.Contract.{StandsFor as HostStandsFor};
 ghost use Rattle.machine.specs.Stands.{StandsForSome, WhereStands, hosts_pending};
 
-use crate::agents::event_of_host;
 use crate::machine::Machine;
 use cxl_message::{Cause, Event, Op, Setup};
 use device_engine::DeviceAgent;
 use host_home::{HostAgent, HostRefusal};
+use machine_agents::{MachineDevice, MachineHost};
 
 impl Machine {
     /// The setup of the run: the machine stands for some run of it at any time.
@@ -41,11 +41,28 @@ impl Machine {
         ensures there { slice_get self.now.hosts host ≡ Some result.now }
         ensures stands { WhereStands self.now (λ setup opening t. HostStandsFor result.now setup host (events_of host t)) }
     {
+        self.counted_host(host).agent()
+    }
+
+    /// The same agent, with the number of its acts.
+    pub(crate) fn counted_host(&self, host: u8) -> &MachineHost
+        requires { host < self.now.setup.hosts }
+        ensures there { slice_get self.now.hosts host ≡ Some result.now }
+        ensures stands { WhereStands self.now (λ setup opening t. HostStandsFor result.now setup host (events_of host t)) }
+    {
         &self.hosts[host as usize]
     }
 
     /// The device: it stands for its own events in the run. It takes no memory.
     pub fn device(&self) -> &DeviceAgent
+        ensures there { result.now ≡ self.now.device }
+        ensures stands { WhereStands self.now (λ setup opening t. DeviceStandsFor result.now setup opening (events_of the_device t)) }
+    {
+        self.counted_device().agent()
+    }
+
+    /// The same, with the number of its acts.
+    pub(crate) fn counted_device(&self) -> &MachineDevice
         ensures there { result.now ≡ self.now.device }
         ensures stands { WhereStands self.now (λ setup opening t. DeviceStandsFor result.now setup opening (events_of the_device t)) }
     {
@@ -101,20 +118,19 @@ impl Machine {
         requires { host < self.now.setup.hosts }
         ensures offered { WhereStands self.now (λ setup opening t. result ≡ offered_by setup host stream op.now (events_of host t)) }
     {
-        let agent = self.host(host);
-        let index = agent.stream_next(stream);
+        let index = self.host(host).stream_next(stream);
         let cause = Cause::Op {
             stream,
             index,
             op: *op,
         };
-        event_of_host(agent, &cause)
+        self.counted_host(host).event_of(&cause)
     }
 
     /// What all messages in flight add to the weight (own rule). It takes no memory.
     pub fn flight_weight(&self) -> u64
         ensures weight { WhereStands self.now (λ setup opening t. result ≡ flight_weight setup t) }
     {
-        self.links.weight()
+        self.links.queues().weight()
     }
 }

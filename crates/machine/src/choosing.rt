@@ -4,12 +4,11 @@ ghost use Rattle.answer_laws.specs.Answered.{agent_answer};
 ghost use Rattle.coherence_model.specs.Fitting.{is_device as agent_is_device};
 ghost use Rattle.coherence_model.specs.Next.{next_steps};
 ghost use Rattle.coherence_model.specs.Traces.{events_of};
-ghost use Rattle.machine.specs.Going.{MakesAnswer};
+ghost use Rattle.machine_agents.specs.Going.{MakesAnswer};
 ghost use Rattle.machine.specs.Stands.{StandsForSome, WhereStands};
 ghost use Rattle.next_laws.specs.Told.{host_acts_told, takes_told};
 ghost use Rattle.machine.specs.Steps.{IsChoice, host_acts_below, takes_below};
 
-use crate::agents::{made_by_device, made_by_host};
 use crate::judging::is_device;
 use crate::machine::Machine;
 use crate::steps::Step;
@@ -23,7 +22,7 @@ impl Machine {
     {
         let takes = self.take_count();
         let acts = self.host_act_count();
-        let device_acts = self.device().act_count();
+        let device_acts = self.counted_device().act_count();
         takes + acts + device_acts
     }
 
@@ -65,7 +64,7 @@ impl Machine {
         requires { host < self.now.setup.hosts }
         ensures count { WhereStands self.now (λ setup opening t. result ≡ length (host_acts_told setup t host)) }
     {
-        self.host(host).act_count()
+        self.counted_host(host).act_count()
     }
 
     /// The next step of a number, which is below `choices`, as an event, in the order of the next steps: takes, acts of the hosts, acts
@@ -90,9 +89,9 @@ impl Machine {
         ensures made { WhereStands self.now (λ setup opening t. MakesAnswer step.now.agent step.now.cause (agent_answer setup opening step.now.agent step.now.cause (events_of step.now.agent t)) result made.new) }
     {
         if is_device(step.agent) {
-            made_by_device(self.device(), &step.cause, made)
+            self.counted_device().makes(&step.cause, made)
         } else {
-            made_by_host(self.host(step.agent), &step.cause, made)
+            self.counted_host(step.agent).makes(&step.cause, made)
         }
     }
 }

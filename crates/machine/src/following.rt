@@ -1,15 +1,18 @@
 // Applying an event.
-ghost use Rattle.std.specs.Prelude.{◌≡◌, ◌∷◌, IsTrue, OnErr, OnOk};
-ghost use Rattle.coherence_model.specs.Runs.{first_broken as first_rule_broken, is_allowed};
-ghost use Rattle.link_queues.specs.Links.{HasRoom, HasRoomFor, TakesFromHost, after_cause, after_sends, with_sent};
+ghost use Rattle.std.specs.Prelude.{◌≡◌, ◌∷◌, IsTrue, OnErr, OnOk, false, true};
+ghost use Rattle.answer_laws.specs.Answered.{is_answered};
+ghost use Rattle.coherence_model.specs.Fitting.{is_device as agent_is_device};
+ghost use Rattle.coherence_model.specs.Runs.{first_broken as first_rule_broken};
+ghost use Rattle.coherence_model.specs.Traces.{events_of};
+ghost use Rattle.machine.specs.Going.{KeepsFirstRules};
 ghost use Rattle.machine.specs.Stands.{StandsFor, WhereStands, verdict};
 
-use crate::agents::{step_device, step_host};
+use crate::agents::follow_at_host;
 use crate::judging::is_device;
 use crate::machine::Machine;
-use cxl_message::{Cause, Event, Out, RuleNo, Sends};
-use event_room::{EventRoom, MessageRef};
-use link_queues::LinkQueues;
+use crate::moving::move_made;
+use cxl_message::{Event, RuleNo};
+use event_room::EventRoom;
 
 impl Machine {
     /// Applies an event that is allowed after the run that the machine stands for (CXL 3.1, chapter 3: the flows of HDM-DB), and stands
@@ -20,81 +23,74 @@ impl Machine {
         ensures goes_on { WhereStands self.old (λ setup opening t. OnOk result (StandsFor self.new setup opening (event.now ∷ t))) }
         ensures refused { OnErr result (self.new ≡ self.old) }
     {
-        let mut made = EventRoom::new();
-        match self.first_broken(event, &mut made) {
-            Some(rule) => Err(rule),
-            None => {
-                self.follow(event, &mut made);
-                Ok(())
-            }
-        }
+        let mut room = EventRoom::new();
+        room.set(event);
+        self.judge(&room)
     }
 
-    /// Applies the event in a room, as `apply` does. It takes no memory.
+    /// Applies the event in a room, as `apply` does. The row is decided once. It takes no memory.
     pub fn judge(&mut self, event: &EventRoom) -> Result<(), RuleNo>
         ensures answer { WhereStands self.old (λ setup opening t. result ≡ verdict (first_rule_broken setup opening t event.now)) }
         ensures goes_on { WhereStands self.old (λ setup opening t. OnOk result (StandsFor self.new setup opening (event.now ∷ t))) }
         ensures refused { OnErr result (self.new ≡ self.old) }
     {
-        let event = event.event();
-        self.apply(&event)
+        let value = event.event();
+        if let Some(rule) = self.broken_before_row(&value) {
+            return Err(rule);
+        }
+        if !self.follow(&value, event) {
+            return Err(self.row_of(&value));
+        }
+        Ok(())
     }
 
-    /// Goes on by an event that is allowed after the run. The room is written over.
-    fn follow(&mut self, event: &Event, made: &mut EventRoom)
-        requires { WhereStands self.old (λ setup opening t. IsTrue (is_allowed setup opening t event.now)) }
-        ensures goes_on { WhereStands self.old (λ setup opening t. StandsFor self.new setup opening (event.now ∷ t)) }
+    /// Goes on by an event that keeps P0, K0 and S0, where its agent answers its cause with it; else nothing changes. The room has the
+    /// event.
+    fn follow(&mut self, event: &Event, room: &EventRoom) -> bool
+        requires keeps { KeepsFirstRules self.old event.now }
+        requires room { room.now ≡ event.now }
+        ensures answered { WhereStands self.old (λ setup opening t. result ≡ is_answered setup opening event.now (events_of event.now.agent t)) }
+        ensures goes_on { IsTrue result → WhereStands self.old (λ setup opening t. StandsFor self.new setup opening (event.now ∷ t)) }
+        ensures refused { result ≡ false → self.new ≡ self.old }
     {
-        move_messages(&mut self.links, event);
         if is_device(event.agent) {
-            step_device(&mut self.device, event, made);
+            self.follow_of_device(event, room)
         } else {
-            step_host(&mut self.hosts, event, made);
+            self.follow_of_host(event, room)
         }
     }
-}
 
-/// Takes the message of an event's cause away, and sends its messages in order.
-fn move_messages(links: &mut LinkQueues, event: &Event)
-    requires takes { TakesFromHost links.old event.now.cause }
-    requires room { HasRoomFor (after_cause event.now.cause links.old) event.now.sends }
-    ensures { links.new ≡ after_sends event.now.sends (after_cause event.now.cause links.old) }
-{
-    take_message(links, &event.cause);
-    send_messages(links, &event.sends);
-}
-
-/// Takes the message of a cause away, if it takes one.
-pub fn take_message(links: &mut LinkQueues, cause: &Cause)
-    requires { TakesFromHost links.old cause.now }
-    ensures { links.new ≡ after_cause cause.now links.old }
-{
-    match cause {
-        Cause::Take { host, message } => links.take(*host, MessageRef::of(message)),
-        Cause::Op { .. } => {}
-        Cause::Act(_) => {}
-    }
-}
-
-/// Sends messages in order.
-fn send_messages(links: &mut LinkQueues, sends: &Sends)
-    requires { HasRoomFor links.old sends.now }
-    ensures { links.new ≡ after_sends sends.now links.old }
-{
-    match sends {
-        Sends::Nothing => {}
-        Sends::One(out) => send_message(links, out),
-        Sends::Two(first, second) => {
-            send_message(links, first);
-            send_message(links, second);
+    /// Goes on by an event of the device.
+    fn follow_of_device(&mut self, event: &Event, room: &EventRoom) -> bool
+        requires keeps { KeepsFirstRules self.old event.now }
+        requires room { room.now ≡ event.now }
+        requires device { agent_is_device event.now.agent ≡ true }
+        ensures answered { WhereStands self.old (λ setup opening t. result ≡ is_answered setup opening event.now (events_of event.now.agent t)) }
+        ensures goes_on { IsTrue result → WhereStands self.old (λ setup opening t. StandsFor self.new setup opening (event.now ∷ t)) }
+        ensures refused { result ≡ false → self.new ≡ self.old }
+    {
+        let mut made = EventRoom::new();
+        if !self.device.follow(&event.cause, room, &mut made) {
+            return false;
         }
+        move_made(&mut self.links, &event.cause, room);
+        true
     }
-}
 
-/// Sends a message.
-fn send_message(links: &mut LinkQueues, out: &Out)
-    requires { HasRoom links.old out.now.host out.now.message }
-    ensures { links.new ≡ with_sent out.now.host out.now.message links.old }
-{
-    links.send(out.host, MessageRef::of(&out.message));
+    /// Goes on by an event of a host.
+    fn follow_of_host(&mut self, event: &Event, room: &EventRoom) -> bool
+        requires keeps { KeepsFirstRules self.old event.now }
+        requires room { room.now ≡ event.now }
+        requires host { agent_is_device event.now.agent ≡ false }
+        ensures answered { WhereStands self.old (λ setup opening t. result ≡ is_answered setup opening event.now (events_of event.now.agent t)) }
+        ensures goes_on { IsTrue result → WhereStands self.old (λ setup opening t. StandsFor self.new setup opening (event.now ∷ t)) }
+        ensures refused { result ≡ false → self.new ≡ self.old }
+    {
+        let mut made = EventRoom::new();
+        if !follow_at_host(&mut self.hosts, event.agent, &event.cause, room, &mut made) {
+            return false;
+        }
+        move_made(&mut self.links, &event.cause, room);
+        true
+    }
 }

@@ -1,24 +1,23 @@
 // Which rule an event breaks first after the run.
-ghost use Rattle.std.specs.Prelude.{◌≡◌, ◌<◌, ◌&&◌, ◌==◌, IsTrue, if◌then◌else◌, nat_le, nat_lt, not, ℕ};
+ghost use Rattle.std.specs.Prelude.{◌≡◌, ◌<◌, ◌&&◌, ◌==◌, IfSome, IsTrue, None, Some, if◌then◌else◌, nat_le, nat_lt, not, ℕ};
 ghost use Rattle.cxl_message.specs.declared.events.Cause.{Cause};
 ghost use Rattle.cxl_message.specs.declared.events.Op.{Op};
 ghost use Rattle.cxl_message.specs.Codes.{copy_code};
 ghost use Rattle.cxl_message.specs.Events.{is_load};
 ghost use Rattle.cxl_message.specs.Messages.{channel_of};
-ghost use Rattle.answer_laws.specs.Answered.{is_answered as is_answered_after};
 ghost use Rattle.coherence_model.specs.Fitting.{is_device as agent_is_device};
 ghost use Rattle.coherence_model.specs.Flight.{in_flight, is_takeable};
 ghost use Rattle.coherence_model.specs.Rows.{rule_of as rule_of_cause};
 ghost use Rattle.coherence_model.specs.Rules.{k0_takeable, most_operations, p0_profile, s0_stream_order};
 ghost use Rattle.coherence_model.specs.Runs.{first_broken as first_rule_broken};
 ghost use Rattle.coherence_model.specs.Traces.{events_of};
+ghost use Rattle.machine.specs.Going.{KeepsFirstRules};
 ghost use Rattle.machine.specs.Stands.{WhereStands};
 
-use crate::agents::{is_of_device, is_of_host};
 use crate::machine::Machine;
 use crate::rows::{act_row, take_row};
 use cxl_message::{Cause, CopyState, DEVICE, Event, Message, Op, RuleNo};
-use event_room::{EventRoom, MessageRef};
+use event_room::MessageRef;
 use profile_rules::keeps_profile;
 
 /// Whether an agent is the device.
@@ -29,29 +28,28 @@ pub fn is_device(agent: u8) -> bool
 }
 
 impl Machine {
-    /// The first rule that an event breaks after the run, if it breaks one: P0, K0, S0, the row. The room is written over.
-    pub(crate) fn first_broken(&self, event: &Event, made: &mut EventRoom) -> Option<RuleNo>
-        ensures broken { WhereStands self.now (λ setup opening t. result ≡ first_rule_broken setup opening t event.now) }
+    /// The first of P0, K0 and S0 that an event breaks after the run, if it breaks one.
+    pub(crate) fn broken_before_row(&self, event: &Event) -> Option<RuleNo>
+        ensures broken { IfSome result (λ rule. WhereStands self.now (λ setup opening t. Some rule ≡ first_rule_broken setup opening t event.now)) }
+        ensures kept { result ≡ None → KeepsFirstRules self.now event.now }
     {
         if !keeps_profile(self.setup(), event) {
             return Some(RuleNo::P0);
         }
-        self.broken_past_profile(event, made)
+        self.broken_past_profile(event)
     }
 
     /// The same for an event that keeps P0.
-    fn broken_past_profile(&self, event: &Event, made: &mut EventRoom) -> Option<RuleNo>
+    fn broken_past_profile(&self, event: &Event) -> Option<RuleNo>
         requires { IsTrue (p0_profile self.now.setup event.now) }
-        ensures broken { WhereStands self.now (λ setup opening t. result ≡ first_rule_broken setup opening t event.now) }
+        ensures broken { IfSome result (λ rule. WhereStands self.now (λ setup opening t. Some rule ≡ first_rule_broken setup opening t event.now)) }
+        ensures kept { result ≡ None → KeepsFirstRules self.now event.now }
     {
         if !self.may_take(event) {
             return Some(RuleNo::K0);
         }
         if !self.keeps_order(event) {
             return Some(RuleNo::S0);
-        }
-        if !self.is_answered(event, made) {
-            return Some(self.row_of(event));
         }
         None
     }
@@ -73,7 +71,9 @@ impl Machine {
         requires { host < self.now.setup.hosts }
         ensures takeable { WhereStands self.now (λ setup opening t. result ≡ is_takeable message.now (in_flight host (channel_of message.now) t)) }
     {
-        self.links.is_takeable(host, MessageRef::of(message))
+        self.links
+            .queues()
+            .is_takeable(host, MessageRef::of(message))
     }
 
     /// Rule S0.
@@ -97,20 +97,8 @@ impl Machine {
         begins_next(index, agent.stream_next(stream), agent.stream_waits(stream))
     }
 
-    /// Whether an event is what its agent answers to its cause.
-    fn is_answered(&self, event: &Event, made: &mut EventRoom) -> bool
-        requires { IsTrue (p0_profile self.now.setup event.now) }
-        ensures answered { WhereStands self.now (λ setup opening t. result ≡ is_answered_after setup opening event.now (events_of event.now.agent t)) }
-    {
-        if is_device(event.agent) {
-            is_of_device(self.device(), event, made)
-        } else {
-            is_of_host(self.host(event.agent), event, made)
-        }
-    }
-
     /// The row of an event's cause.
-    fn row_of(&self, event: &Event) -> RuleNo
+    pub(crate) fn row_of(&self, event: &Event) -> RuleNo
         requires { IsTrue (p0_profile self.now.setup event.now) }
         ensures rule { WhereStands self.now (λ setup opening t. result ≡ rule_of_cause setup event.now.agent event.now.cause (events_of event.now.agent t)) }
     {

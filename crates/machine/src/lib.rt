@@ -8,14 +8,13 @@ mod choosing;
 mod following;
 mod judging;
 mod machine;
+mod moving;
 mod opening;
 mod performing;
 mod picking;
 mod refusals;
 mod rows;
 mod steps;
-#[cfg(test)]
-mod tests;
 
 pub use host_home::HostRefusal;
 pub use machine::Machine;

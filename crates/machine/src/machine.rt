@@ -6,9 +6,9 @@ ghost use Rattle.machine.specs.Stands.{StandsFor};
 use crate::opening::open_hosts;
 use crate::refusals::OpenMachineRefusal;
 use cxl_message::{Opening, Setup};
-use device_engine::{DeviceAgent, OpenDeviceRefusal};
-use host_home::HostAgent;
-use link_queues::LinkQueues;
+use device_engine::OpenDeviceRefusal;
+use link_queues::CountedLinks;
+use machine_agents::{MachineDevice, MachineHost};
 use std::alloc::Global;
 use std::marker::Model;
 
@@ -18,9 +18,9 @@ use std::marker::Model;
 #[derive(Drop)]
 pub struct Machine {
     pub(crate) setup: Setup,
-    pub(crate) hosts: Vec<HostAgent>,
-    pub(crate) device: DeviceAgent,
-    pub(crate) links: LinkQueues,
+    pub(crate) hosts: Vec<MachineHost>,
+    pub(crate) device: MachineDevice,
+    pub(crate) links: CountedLinks,
 }
 
 impl Model for Machine {
@@ -44,7 +44,7 @@ impl Machine {
         ensures bad_opening { (result ≡ Err OpenMachineRefusal.BadOpening) ↔ (opening_fits setup.now.lines opening.now ≡ false) }
         ensures stands { IfOk result (λ machine. StandsFor machine setup.now opening.now []) }
     {
-        let device = match DeviceAgent::open(alloc, setup, opening) {
+        let device = match MachineDevice::open(alloc, setup, opening) {
             Ok(device) => device,
             Err(OpenDeviceRefusal::BadOpening) => return Err(OpenMachineRefusal::BadOpening),
             Err(OpenDeviceRefusal::Memory) => return Err(OpenMachineRefusal::Memory),
@@ -52,7 +52,7 @@ impl Machine {
         let Ok(hosts) = open_hosts(alloc, setup) else {
             return Err(OpenMachineRefusal::Memory);
         };
-        let Ok(links) = LinkQueues::open(alloc, setup) else {
+        let Ok(links) = CountedLinks::open(alloc, setup) else {
             return Err(OpenMachineRefusal::Memory);
         };
         let _within = setup.hosts();

@@ -2,19 +2,15 @@
 ghost use Rattle.std.specs.Prelude.{◌≡◌, ◌∷◌, Some, false, slice_get, true};
 ghost use Rattle.coherence_model.specs.Fitting.{is_device as agent_is_device};
 ghost use Rattle.coherence_model.specs.Next.{next_steps};
-ghost use Rattle.event_room.specs.Parts.{message_of};
-ghost use Rattle.link_queues.specs.Links.{HasRoom, HasRoomFor, TakesFromHost, after_cause, after_sends, with_sent};
 ghost use Rattle.machine.specs.Stands.{StandsFor, WhereStands};
 ghost use Rattle.machine.specs.Steps.{IsChoice, IsStepAt};
 
-use crate::agents::{perform_at_device, perform_at_host};
-use crate::following::take_message;
+use crate::agents::perform_at_host;
 use crate::judging::is_device;
 use crate::machine::Machine;
+use crate::moving::move_made;
 use crate::steps::Step;
-use cxl_message::Cause;
-use event_room::{EventRoom, OutRef, SendsRef};
-use link_queues::LinkQueues;
+use event_room::EventRoom;
 
 impl Machine {
     /// Makes the next step of a number, which is below `choices`: its event is written into a room, and the machine stands for the run
@@ -50,7 +46,7 @@ impl Machine {
         ensures next { WhereStands self.old (λ setup opening t. slice_get (next_steps setup opening t) k ≡ Some made.new) }
         ensures goes_on { WhereStands self.old (λ setup opening t. StandsFor self.new setup opening (made.new ∷ t)) }
     {
-        perform_at_device(&mut self.device, &step.cause, made);
+        self.device.perform(&step.cause, made);
         move_made(&mut self.links, &step.cause, made);
     }
 
@@ -64,29 +60,4 @@ impl Machine {
         perform_at_host(&mut self.hosts, step.agent, &step.cause, made);
         move_made(&mut self.links, &step.cause, made);
     }
-}
-
-/// Takes the message of a cause away, and sends the messages of the event in a room, in order.
-fn move_made(links: &mut LinkQueues, cause: &Cause, made: &EventRoom)
-    requires takes { TakesFromHost links.old cause.now }
-    requires room { HasRoomFor (after_cause cause.now links.old) made.now.sends }
-    ensures { links.new ≡ after_sends made.now.sends (after_cause cause.now links.old) }
-{
-    take_message(links, cause);
-    match made.sends() {
-        SendsRef::Nothing => {}
-        SendsRef::One(out) => send_out(links, out),
-        SendsRef::Two(first, second) => {
-            send_out(links, first);
-            send_out(links, second);
-        }
-    }
-}
-
-/// Sends a message.
-fn send_out(links: &mut LinkQueues, out: OutRef<'_>)
-    requires { HasRoom links.old out.host (message_of out.message) }
-    ensures { links.new ≡ with_sent out.entry.host (message_of out.entry.message) links.old }
-{
-    links.send(out.host, out.message);
 }

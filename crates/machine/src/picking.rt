@@ -47,7 +47,7 @@ impl Machine {
         requires { host < self.now.setup.hosts }
         ensures step { WhereStands self.now (λ setup opening t. option_map parts_of result ≡ slice_get (takes_told t host) k) }
     {
-        let message = match self.links.takeable_at(host, k) {
+        let message = match self.links.queues().takeable_at(host, k) {
             Some(message) => message.message(),
             None => return None,
         };

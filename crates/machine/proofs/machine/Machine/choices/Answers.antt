@@ -5,13 +5,13 @@ use Rattle.machine.proofs.machine.Machine.choices.Goals as goal
 
 pub overflow_add-result : goal.overflow_add-result
 overflow_add-result c =
-    let fits = steps_fit c.args.self.now c.device.result.now c.take_count-takes.result c.host_act_count-acts.result c.act_count-device_acts.result c.take_count-takes.ensures.some c.take_count-takes.ensures.count c.host_act_count-acts.ensures.count c.device.ensures.stands c.act_count-device_acts.ensures.count in
+    let fits = steps_fit c.args.self.now c.counted_device.result.now c.take_count-takes.result c.host_act_count-acts.result c.act_count-device_acts.result c.take_count-takes.ensures.some c.take_count-takes.ensures.count c.host_act_count-acts.ensures.count c.counted_device.ensures.stands c.act_count-device_acts.ensures in
     omega arith
 
 pub overflow_add-result-2 : goal.overflow_add-result-2
 overflow_add-result-2 c =
-    let fits = steps_fit c.args.self.now c.device.result.now c.take_count-takes.result c.host_act_count-acts.result c.act_count-device_acts.result c.take_count-takes.ensures.some c.take_count-takes.ensures.count c.host_act_count-acts.ensures.count c.device.ensures.stands c.act_count-device_acts.ensures.count in
+    let fits = steps_fit c.args.self.now c.counted_device.result.now c.take_count-takes.result c.host_act_count-acts.result c.act_count-device_acts.result c.take_count-takes.ensures.some c.take_count-takes.ensures.count c.host_act_count-acts.ensures.count c.counted_device.ensures.stands c.act_count-device_acts.ensures in
     omega arith
 
 pub returns : goal.returns
-returns c = record { count = steps_add_up c.args.self.now c.device.result.now c.take_count-takes.result c.host_act_count-acts.result c.act_count-device_acts.result c.take_count-takes.ensures.count c.host_act_count-acts.ensures.count c.device.ensures.stands c.act_count-device_acts.ensures.count }
+returns c = record { count = steps_add_up c.args.self.now c.counted_device.result.now c.take_count-takes.result c.host_act_count-acts.result c.act_count-device_acts.result c.take_count-takes.ensures.count c.host_act_count-acts.ensures.count c.counted_device.ensures.stands c.act_count-device_acts.ensures }

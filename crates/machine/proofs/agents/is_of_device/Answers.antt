@@ -1,9 +1,0 @@
--- The event sends and commits what the device answers, or the device refuses.
-use Rattle.machine.proofs.Answers.{device_emits, device_refuses}
-use Rattle.machine.proofs.agents.is_of_device.Goals as goal
-
-pub returns-in-Ok : goal.returns-in-Ok
-returns-in-Ok c = record { answer = device_emits c.args.agent.now c.args.event.now c.would_into.new.room c.would_into.result _ c.emits_the_same.result c.in-Ok.is c.would_into.ensures.answer c.emits_the_same.ensures }
-
-pub returns-in-Err : goal.returns-in-Err
-returns-in-Err c = record { answer = device_refuses c.args.agent.now c.args.event.now c.would_into.new.room c.would_into.result _ c.in-Err.is c.would_into.ensures.answer }

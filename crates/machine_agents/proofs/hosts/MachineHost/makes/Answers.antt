@@ -1,0 +1,9 @@
+-- The host answers with the event in the room, or it refuses.
+use Rattle.machine_agents.proofs.Answers.{host_makes_it, host_makes_none, host_seen}
+use Rattle.machine_agents.proofs.hosts.MachineHost.makes.Goals as goal
+
+pub returns-in-Ok : goal.returns-in-Ok
+returns-in-Ok c = record { answer = host_seen _ _ _ c.self.view_is (host_makes_it c.self.inside.agent c.args.cause.now c.would_into.new.room c.would_into.result _ c.in-Ok.is c.would_into.ensures.answer c.would_into.ensures.agent c.would_into.ensures.cause) }
+
+pub returns-in-Err : goal.returns-in-Err
+returns-in-Err c = record { answer = host_seen _ _ _ c.self.view_is (host_makes_none c.self.inside.agent c.args.cause.now c.would_into.new.room c.would_into.result _ c.in-Err.is c.would_into.ensures.answer) }
