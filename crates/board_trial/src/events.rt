@@ -5,6 +5,7 @@ ghost use Rattle.board_trial.specs.Trial.{is_operation};
 use cxl_message::{Bytes64, Cause, Commit, Line, Op, Sends};
 use host_home::Emitted;
 
+/// The bytes of a line as it was opened.
 pub const ZEROS: Bytes64 = Bytes64([0; 64]);
 
 /// The operation of a host's own stream that loads the host's own line.

@@ -2,7 +2,7 @@
 //! event is allowed is shown by a machine that stands for the whole run, or by the agent of the host that makes it, which stands
 //! for the host's own events.
 //!
-//! All of it is the project's own and no statement about CXL 3.1. No crate stands on this one.
+//! All of it is the project's own and no statement about CXL 3.1. Only its tests stand on this crate.
 #![tactic(auto)]
 
 mod events;
@@ -10,8 +10,7 @@ mod front;
 mod host;
 mod marks;
 mod stage;
-#[cfg(test)]
-mod tests;
 
+pub use events::{ZEROS, load, loaded};
 pub use marks::{Refused, mark_next, mark_own};
 pub use stage::{Race, Stage};

@@ -1,7 +1,6 @@
 // The first events of two hosts that don't know of each other, and two loads with 2,000 more from two threads.
 
-use crate::events::{ZEROS, load, loaded};
-use crate::stage::Stage;
+use board_trial::{Stage, ZEROS, load, loaded};
 use cxl_message::{
     Act, Cause, Event, Line, Message, Meta, NdrOp, Op, Out, ReqOp, Sends, Setup, SnpType, Tag,
 };

@@ -1,0 +1,5 @@
+//! Tests of the board: seats of two hosts, from one thread and from two.
+#![tactic(auto)]
+
+#[cfg(test)]
+mod trials;
