@@ -1,5 +1,5 @@
 // The queues of all hosts.
-ghost use Rattle.std.specs.Prelude.{◌≡◌, ◌*◌, ◌<◌, ◌≤◌, IfOk, IsTrue, Some, [], length, map, option_map, slice_get, vec_len};
+ghost use Rattle.std.specs.Prelude.{◌≡◌, ◌*◌, ◌↔◌, ◌<◌, ◌≤◌, IfOk, IsTrue, Some, [], length, map, option_map, slice_get, vec_len};
 ghost use Rattle.cxl_message.specs.Lists.{below};
 ghost use Rattle.cxl_message.specs.Messages.{channel_of};
 ghost use Rattle.coherence_model.specs.Flight.{in_flight, is_takeable as message_is_takeable};
@@ -162,10 +162,13 @@ impl LinkQueues {
     /// Whether there is room for a message of a host: the host is one of the setup's, and fewer messages are in flight on the channel
     /// than may be.
     pub fn has_room(&self, host: u8, message: MessageRef<'_>) -> bool
-        ensures { IsTrue result → HasRoom self.now host (message_of message.entry) }
+        ensures { IsTrue result ↔ HasRoom self.now host (message_of message.entry) }
     {
+        if host >= self.hosts {
+            return false;
+        }
         let channel = channel_of_message(message);
-        host < self.hosts && is_free(self.queue(host, channel), carries_payloads(channel))
+        is_free(self.queue(host, channel), carries_payloads(channel))
     }
 
     /// How many hosts there are, 1 to 16.
@@ -198,8 +201,7 @@ impl LinkQueues {
 
 /// Whether a queue has room for one more, of messages with payloads or without.
 fn is_free(queue: &MessageQueue, carries: bool) -> bool
-    ensures carried { IsTrue result → queue.now.carries ≡ carries }
-    ensures room { IsTrue result → length queue.now.messages < queue.now.room }
+    ensures { IsTrue result ↔ ((queue.now.carries ≡ carries) × (length queue.now.messages < queue.now.room)) }
 {
     queue.carries() == carries && queue.len() < queue.room()
 }
