@@ -11,3 +11,4 @@ pub mod Readings
 pub mod HeadFailures
 pub mod Failing
 pub mod Appending
+pub mod Generated

@@ -47,7 +47,7 @@ bytes_at (b ∷ bytes) are (suc i) = bytes_at bytes (and_parts _ _ are).1 i
 small_rest : (n : ℕ) (more : Bool) → more ≡ true → (nat_lt (n % 256) 256 && more) ≡ true
 small_rest n more h = and_from _ _ (lt-ltb (n % 256) 256 (omega arith)) h
 
-value_bytes : (value : ℕ) → AreBytes (to_be_bytes w64 value)
+pub value_bytes : (value : ℕ) → AreBytes (to_be_bytes w64 value)
 value_bytes value =
     let at : ℕ → ℕ = λ k. value / 256 ^ k in
     small_rest (at 7) _ (small_rest (at 6) _ (small_rest (at 5) _ (small_rest (at 4) _ (small_rest (at 3) _ (small_rest (at 2) _ (small_rest (at 1) _ (small_rest value true refl)))))))

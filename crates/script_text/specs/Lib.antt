@@ -7,3 +7,4 @@ pub mod Head
 pub mod Drafts
 pub mod Failures
 pub mod Laws
+pub mod Generator

@@ -6,6 +6,8 @@
 #![tactic(auto)]
 
 mod drafts;
+mod draws;
+mod generating;
 mod head;
 mod laws;
 mod limits;
@@ -16,6 +18,7 @@ mod refusals;
 mod scripts;
 mod words;
 
+pub use generating::generate;
 pub use laws::{failures_are_alone, texts_spell_one_script};
 pub use limits::{MAX_OPERATIONS, MAX_PICK, MAX_ROOM, MAX_SCRIPT_TAGS};
 pub use parsing::parse_script;
