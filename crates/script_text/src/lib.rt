@@ -1,6 +1,6 @@
 //! Scripts as text: a machine, what its memory holds at first, and what its streams do. A text that `parse_script` takes
 //! spells that script and no other; one that it refuses spells none, and fails first at the line and for the reason that it
-//! answers.
+//! answers. `generate` makes a large script of a seed.
 //!
 //! The grammar is this project's own and no statement about the CXL standard.
 #![tactic(auto)]
