@@ -1,5 +1,6 @@
 use cxl_message::{Bytes64, Line, Op};
-use script_text::generate;
+use script_text::{Script, generate};
+use std::process::Abort;
 use std::test::Fail;
 
 // Seventy operations of seed 1: the first six streams have two, and each kind stands among them.
@@ -31,14 +32,20 @@ fn seventy_operations(rt: HostRuntime) -> Result<(), Fail> {
     Ok(())
 }
 
+// How many operations a stream has.
+fn operation_count(rt: &impl Abort, script: &Script, stream: u8) -> usize {
+    assert!(rt; usize::from(stream) < script.setup().streams().len());
+    script.ops(stream).len()
+}
+
 // No operation, and as many as a script may have.
 #[test]
 fn least_and_most(rt: HostRuntime) -> Result<(), Fail> {
     let none = generate(rt.alloc(), 0, 1)?;
     assert_eq!(rt; none.picks().len(), 0);
     let most = generate(rt.alloc(), 65536, 1)?;
-    assert!(rt; most.setup().streams().len() == 64);
-    assert_eq!(rt; most.ops(63).len(), 1024);
+    assert_eq!(rt; most.setup().streams().len(), 64);
+    assert_eq!(rt; operation_count(&rt, &most, 63), 1024);
     assert_eq!(rt; most.picks().len(), 524_288);
     Ok(())
 }
