@@ -1,0 +1,12 @@
+pub mod Scans
+pub mod Totals
+pub mod Asked
+pub mod Chosen
+pub mod Turned
+pub mod Began
+pub mod Adding
+pub mod Openings
+pub mod Drivable
+pub mod ShortTags
+pub mod Ways
+pub mod Loops

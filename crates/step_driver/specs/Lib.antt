@@ -1,0 +1,5 @@
+pub mod Summaries
+pub mod Outcomes
+pub mod Driver
+pub mod Picks
+pub mod Outputs

@@ -1,0 +1,18 @@
+//! The driving of scripts: the trace that a script's picks choose, written as it is driven, and what it has of operations, events
+//! and messages.
+//!
+//! The order of choices and the picks are this project's own and no statement about the CXL standard.
+#![tactic(auto)]
+
+mod asking;
+mod choosing;
+mod driving;
+mod putting;
+mod refusals;
+mod summary;
+mod table;
+mod turns;
+
+pub use driving::drive;
+pub use refusals::DriveRefusal;
+pub use summary::Summary;
