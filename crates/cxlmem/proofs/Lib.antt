@@ -1,11 +1,3 @@
-pub mod Adding
-pub mod Choosing
 pub mod Counts
-pub mod Drivable
 pub mod Fronts
-pub mod Loops
-pub mod Openings
-pub mod Scans
-pub mod ShortTags
 pub mod Statuses
-pub mod Turns

@@ -1,16 +1,15 @@
 -- What `drive` reads and writes. Every rule here is an own rule.
-use Rattle.std.specs.Prelude.{IfSome, List, Option, length, reverse, ℕ, ◌≡◌, ◌≤◌, ◌<◌}
+use Rattle.std.specs.Prelude.{IfSome, List, Option, length, ℕ, ◌≡◌, ◌≤◌, ◌<◌}
 use Rattle.cxl_message.specs.Script.{ScriptValue}
 use Rattle.coherence_model.specs.Driven.{driven_trace, event_bound}
 use Rattle.coherent_runs.specs.Coherent.{IsCoherent}
-use Rattle.cxl_codec.specs.Traces.{trace_bytes}
 use Rattle.commit_laws.specs.Commits.{CommitsEach}
 use Rattle.script_text.specs.declared.refusals.ScriptReason.{ScriptReason}
 use Rattle.script_text.specs.Failures.{FailsAt}
 use Rattle.script_text.specs.Script.{IsScript}
 use Rattle.script_text.specs.Spelling.{script_bytes}
+use Rattle.step_driver.specs.Outputs.{WritesDriven, driven_bytes}
 use Rattle.cxlmem.specs.Outcomes.{WritesFront, WritesText}
-use Rattle.cxlmem.specs.Outputs.{WritesDriven}
 use Rattle.cxlmem.specs.Texts.{bad_script_text}
 
 -- the most bytes that a script has
@@ -22,10 +21,6 @@ pub record Spells (input : List ℕ) (script : ScriptValue) : Type 0 where
   pub sound : IsScript script
   pub spelled : input ≡ script_bytes script
   pub within : length input ≤ script_limit
-
--- the trace of a script: its setup, its opening, and the events of its driven trace in their order
-abbrev pub driven_bytes : ScriptValue → List ℕ
-driven_bytes script = trace_bytes script.setup script.opening (reverse (driven_trace script))
 
 -- the input is a script; its driven trace went to the sink, and nothing else, and a reader reads it as such; in it each operation of the script is committed once, each stream's in its order, and nothing else is; it has at most 108 * H - 3 events for each operation, with H hosts; it is a run whose commits form a legal history, in which a writable copy is always the only copy, and an allowed next step stands wherever something is pending
 pub record Drives (input : List ℕ) (old new : Option (List ℕ)) : Type 0 where

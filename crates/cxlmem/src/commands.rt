@@ -4,20 +4,22 @@ ghost use Rattle.std.specs.Io.KnownBytes.{Appends};
 ghost use Rattle.outside_io.specs.Counts.{TellsFaults};
 ghost use Rattle.cxlmem.specs.Statuses.{IsAnswer, TellsWriteFault};
 ghost use Rattle.cxlmem.specs.Texts.{not_built_text, read_fault_text, too_long_text, usage_text};
-ghost use Rattle.cxlmem.specs.CommandLine.{IsDrive, IsForm, IsUnbuilt};
+ghost use Rattle.cxlmem.specs.CommandLine.{IsBuilt, IsDrive, IsForm, IsUnbuilt};
 ghost use Rattle.cxlmem.specs.Outcomes.{WritesText};
 ghost use Rattle.cxlmem.specs.Drives.{Drives, DrivesFront, IsTooLong, RefusesScript};
+ghost use Rattle.cxlmem.specs.Loads.{Loads, LoadsFront};
 
 use crate::driving::drive;
 use crate::ends::{Status, not_built, usage};
-use crate::forms::{is_drive, is_unbuilt};
+use crate::forms::{is_drive, is_unbuilt, load_count};
+use crate::loading::load;
 use outside_io::{Sink, Source};
 use std::alloc::Global;
 
 /// Carries out the command that the words name: the words after the program's name. It reads from the source and
 /// writes to the sink, texts of refusals included (own rule).
 ///
-/// `drive` is built, for every script. All else that is a form of the command line answers `NotBuilt`.
+/// `drive` and `load N` are built. All else that is a form of the command line answers `NotBuilt`.
 ///
 /// The causes of `Usage`, `BadScript`, `TooLong` and `NotBuilt` and those of `Ok` exclude one another: an input that fails at
 /// a line is spelled by no script (`failures_are_alone` of `script_text`), and any other by one script at most
@@ -35,10 +37,11 @@ pub fn command<S: Source, K: Sink>(
     requires source_counts { S.highest_count source.old < 2 ^ 62 }
     requires sink_counts { K.highest_count sink.old < 2 ^ 62 }
 
-    // The script was read to its end, and its trace is all that was written.
-    ensures words { result ≡ Status.Ok → IsDrive words.now }
-    ensures read_whole { result ≡ Status.Ok → IfSome (S.left source.old) (λ input. S.left source.new ≡ Some []) }
-    ensures driven { result ≡ Status.Ok → IfSome (S.left source.old) (λ input. Drives input (K.gone sink.old) (K.gone sink.new)) }
+    // What was done: a script was read to its end, and its trace is all that was written; or the lines of a load are.
+    ensures words { result ≡ Status.Ok → IsBuilt words.now }
+    ensures read_whole { IsDrive words.now → result ≡ Status.Ok → IfSome (S.left source.old) (λ input. S.left source.new ≡ Some []) }
+    ensures driven { IsDrive words.now → result ≡ Status.Ok → IfSome (S.left source.old) (λ input. Drives input (K.gone sink.old) (K.gone sink.new)) }
+    ensures loaded { ¬ IsDrive words.now → result ≡ Status.Ok → Loads words.now (K.gone sink.old) (K.gone sink.new) }
 
     // Each other status has its cause, and no fault is passed over.
     ensures read_fault { TellsFaults (S.faults source.old) (S.faults source.new) (result ≡ Status.ReadFault) }
@@ -57,11 +60,16 @@ pub fn command<S: Source, K: Sink>(
     ensures usage_text { result ≡ Status.Usage → WritesText (K.gone sink.old) (K.gone sink.new) (K.faults sink.old) (K.faults sink.new) usage_text }
     ensures too_long_text { result ≡ Status.TooLong → WritesText (K.gone sink.old) (K.gone sink.new) (K.faults sink.old) (K.faults sink.new) too_long_text }
     ensures not_built_text { result ≡ Status.NotBuilt → WritesText (K.gone sink.old) (K.gone sink.new) (K.faults sink.old) (K.faults sink.new) not_built_text }
-    ensures cut_short { result ≡ Status.WriteFault → IfSome (S.left source.old) (λ input. DrivesFront input (K.gone sink.old) (K.gone sink.new)) }
-    ensures unfinished { result ≡ Status.Memory → Appends (K.gone sink.old) (K.gone sink.new) [] ⊎ IfSome (S.left source.old) (λ input. DrivesFront input (K.gone sink.old) (K.gone sink.new)) }
+    ensures cut_short { IsDrive words.now → result ≡ Status.WriteFault → IfSome (S.left source.old) (λ input. DrivesFront input (K.gone sink.old) (K.gone sink.new)) }
+    ensures load_cut_short { ¬ IsDrive words.now → result ≡ Status.WriteFault → LoadsFront words.now (K.gone sink.old) (K.gone sink.new) }
+    ensures unfinished { IsDrive words.now → result ≡ Status.Memory → Appends (K.gone sink.old) (K.gone sink.new) [] ⊎ IfSome (S.left source.old) (λ input. DrivesFront input (K.gone sink.old) (K.gone sink.new)) }
+    ensures not_loaded { ¬ IsDrive words.now → result ≡ Status.Memory → sink.new ≡ sink.old }
 {
     if is_drive(words) {
         return drive(alloc, source, sink);
+    }
+    if let Some(count) = load_count(words) {
+        return load(alloc, count, sink);
     }
     if is_unbuilt(words) {
         return not_built(sink);

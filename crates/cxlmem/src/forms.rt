@@ -1,8 +1,10 @@
 // The words of the command line.
-ghost use Rattle.std.specs.Prelude.{◌≡◌, ◌↔◌, ◌≤◌, IsTrue, decimal, string_bytes, ℕ};
-ghost use Rattle.cxlmem.specs.CommandLine.{IsDrive, IsUnbuilt};
+ghost use Rattle.std.specs.Prelude.{◌≡◌, ◌≢◌, ◌↔◌, ◌≤◌, IfSome, IsTrue, None, decimal, string_bytes, ℕ};
+ghost use Rattle.script_text.specs.declared.limits.TheConstants.{MAX_OPERATIONS};
+ghost use Rattle.cxlmem.specs.CommandLine.{IsDrive, IsLoad, IsUnbuilt};
 
 use itoa::Buffer;
+use script_text::MAX_OPERATIONS;
 
 /// Whether the words are the single word `drive`.
 pub fn is_drive(words: &[String]) -> bool
@@ -20,8 +22,18 @@ pub fn is_unbuilt(words: &[String]) -> bool
 {
     match words {
         [word] => is_text(word, "check") || is_text(word, "view") || is_text(word, "run"),
-        [word, count] => is_text(word, "load") && is_count(count),
         _ => false,
+    }
+}
+
+/// The number of operations, if the words are `load` and a number.
+pub fn load_count(words: &[String]) -> Option<u32>
+    ensures load { IfSome result (λ n. IsLoad words.now n) }
+    ensures no_load { (n : ℕ) → IsLoad words.now n → result ≢ None }
+{
+    match words {
+        [word, count] if is_text(word, "load") => count_of(count),
+        _ => None,
     }
 }
 
@@ -32,12 +44,15 @@ fn is_text(word: &String, text: &str) -> bool
     word.as_str() == text
 }
 
-/// Whether a word is a decimal number up to 65,536 without leading zeros.
-fn is_count(word: &String) -> bool
-    ensures { IsTrue result ↔ ((n : ℕ) × (n ≤ 65536) × (string_bytes word.now ≡ decimal n)) }
+/// The number that a word spells: a decimal number up to the most operations, without leading zeros.
+fn count_of(word: &String) -> Option<u32>
+    ensures number { IfSome result (λ n. (n ≤ MAX_OPERATIONS) × (string_bytes word.now ≡ decimal n)) }
+    ensures no_number { (n : ℕ) → n ≤ MAX_OPERATIONS → string_bytes word.now ≡ decimal n → result ≢ None }
 {
-    match word.as_str().parse::<u32>() {
-        Ok(number) => number <= 65536 && is_text(word, Buffer::new().format(number)),
-        Err(_) => false,
+    let number = word.as_str().parse::<u32>().ok()?;
+    if number <= MAX_OPERATIONS && is_text(word, Buffer::new().format(number)) {
+        Some(number)
+    } else {
+        None
     }
 }

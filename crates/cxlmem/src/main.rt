@@ -5,12 +5,12 @@
 //! The words, the statuses and the texts are this project's own and no statement about the CXL standard.
 #![tactic(auto)]
 
-mod begun;
 mod commands;
-mod driver;
 mod driving;
 mod ends;
 mod forms;
+mod loading;
+mod summaries;
 #[cfg(test)]
 mod tests;
 mod traces;

@@ -49,7 +49,7 @@ pub serial_commits : SerialCommits
 serial_commits script can s h ops host list = followed_commits script can.limits can.lists (serial_trace script) (serial_is_run script can) (serial_follows script can) s h ops host list
 
 -- one agent has at most all events
-own_within : (g : ℕ) (t : List Event) → length (events_of g t) ≤ length t
+pub own_within : (g : ℕ) (t : List Event) → length (events_of g t) ≤ length t
 own_within g [] = omega arith
 own_within g (e ∷ t) = by (e.agent == g) (own_within g t)
   where

@@ -16,7 +16,7 @@ use Rattle.serial_laws.proofs.Cut.{cut_step, fits_more, one_moved, zero_fits}
 use Rattle.serial_laws.proofs.Serial.{can_without}
 
 -- a trace that fits is kept whole
-cut_over : (room : ℕ) (t rest : List Event) → HasRoom room t → cut_at room [] (reverse t ++ rest) ≡ cut_at room t rest
+pub cut_over : (room : ℕ) (t rest : List Event) → HasRoom room t → cut_at room [] (reverse t ++ rest) ≡ cut_at room t rest
 cut_over room [] rest fits = refl
 cut_over room (e ∷ t) rest fits =
     ap (cut_at room []) (one_moved e t rest)
@@ -40,7 +40,7 @@ driven_by script n picks t (Some e) more =
     let rest = more (e ∷ t) in
     (rest.0 ++ e ∷ [], rest.1 ∙ sym (append_assoc rest.0 (e ∷ []) t))
 
-driven_goes_on : (script : ScriptValue) (n : ℕ) (picks : List ℕ) (t : List Event) → (later : List Event) × (driven_on n script picks t ≡ later ++ t)
+pub driven_goes_on : (script : ScriptValue) (n : ℕ) (picks : List ℕ) (t : List Event) → (later : List Event) × (driven_on n script picks t ≡ later ++ t)
 driven_goes_on script zero picks t = ([], refl)
 driven_goes_on script (suc n) picks t =
     elim (cases_Bool (is_done script t)) [

@@ -8,7 +8,7 @@ use Rattle.coherence_model.specs.Choices.{Stream}
 use Rattle.coherence_model.specs.Rules.{most_operations}
 use Rattle.coherence_model.specs.Streams.{begun_count}
 use Rattle.coherence_model.specs.Traces.{events_of}
-use Rattle.driven_laws.specs.Reached.{IsOnTheWay, IsReached}
+use Rattle.driven_laws.specs.Reached.{IsReached}
 use Rattle.machine.specs.Stands.{MachineRecord, StandsFor}
 use Rattle.step_driver.specs.declared.table.StreamTable.{StreamTable}
 
@@ -79,8 +79,3 @@ pub record IsNext (script : ScriptValue) (y : Stream) (stream begun : ℕ) (t : 
   pub number : y.number ≡ stream
   pub of_script : IsStreamOf script y
   pub counted : begun ≡ begun_count y.number (events_of y.host t)
-
--- and the trace is on the way to the driven one, with these picks left
-pub record IsAt (script : ScriptValue) (machine : MachineRecord) (s : StreamTable) (picks : List ℕ) (t : List Event) : Type 0 where
-  pub kept : IsKept script machine s t
-  pub way : IsOnTheWay script picks t

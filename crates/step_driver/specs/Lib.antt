@@ -2,4 +2,5 @@ pub mod Summaries
 pub mod Outcomes
 pub mod Driver
 pub mod Picks
+pub mod Schedules
 pub mod Outputs

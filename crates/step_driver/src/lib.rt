@@ -7,12 +7,15 @@
 mod asking;
 mod choosing;
 mod driving;
+mod going;
+mod journals;
 mod putting;
 mod refusals;
+mod schedules;
 mod summary;
 mod table;
 mod turns;
 
-pub use driving::drive;
+pub use driving::{drive, drive_within};
 pub use refusals::DriveRefusal;
 pub use summary::Summary;

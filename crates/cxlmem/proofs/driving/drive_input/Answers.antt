@@ -4,12 +4,9 @@ use Rattle.coherent_runs.proofs.Runs.{runs_coherent}
 use Rattle.coherence_model.specs.Driven.{driven_trace, event_bound}
 use Rattle.driven_laws.proofs.Ending.{driven_is_committed, reached_is_short}
 use Rattle.driven_laws.proofs.Reached.{driving_reaches, reached_is_run}
-use Rattle.cxlmem.proofs.Drivable.{drivable_of}
+use Rattle.step_driver.proofs.Drivable.{drivable_of}
 use Rattle.cxlmem.proofs.Statuses.{fault_is_not_ok, memory_is_not_ok}
 use Rattle.cxlmem.proofs.driving.drive_input.Goals as goal
-
-pub write_trace-requires-clause-drivable : goal.write_trace-requires-clause-drivable
-write_trace-requires-clause-drivable g c = drivable_of c.in-Ok.script c.in-Ok.ensures.script
 
 pub returns-in-Ok-clause-driven : goal.returns-in-Ok-clause-driven
 returns-in-Ok-clause-driven g c done =

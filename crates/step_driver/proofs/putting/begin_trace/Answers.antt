@@ -1,10 +1,9 @@
--- An opening has at most 65,536 lines, and what a refusal leaves is a front of the driven trace.
-use Rattle.std.proofs.Common.{List, ℕ, ap, arith, length, reverse, ◌+◌, ◌≡◌, ◌≤◌}
+-- An opening has at most 65,536 lines, and what a refusal leaves is a front of the trace.
+use Rattle.std.proofs.Common.{List, ℕ, ap, arith, length, ◌+◌, ◌≡◌, ◌≤◌}
 use Rattle.std.proofs.lemmas.Result.{on_err_weaker, on_ok_weaker}
 use Rattle.cxl_message.specs.declared.identifiers.Bytes64.{Bytes64}
 use Rattle.cxl_message.specs.declared.identifiers.Line.{Line}
 use Rattle.cxl_codec.specs.Traces.{trace_bytes}
-use Rattle.coherence_model.specs.Driven.{driven_trace}
 use Rattle.trace_stream.specs.Buffers.{reach}
 use Rattle.trace_stream.specs.Writing.{WritesFront, begin_cost}
 use Rattle.step_driver.proofs.Loops.{of_script}
@@ -21,11 +20,10 @@ begin-requires-clause-counts g c =
     omega (arith, few, lines, size, empty, c.requires.sink_counts)
 
 pub returns-clause-cut_short : goal.returns-clause-cut_short
-returns-clause-cut_short g c =
+returns-clause-cut_short g c events =
     let script = c.args.script.now in
     let old = c.args.writer.now.out.gone in
     let new = c.begin.new.self.out.gone in
-    let events = reverse (driven_trace script) in
     on_err_weaker c.begin.result
     (λ front.
     of_script script (λ setup opening. WritesFront old new (trace_bytes setup opening events)) c.setup.result.now c.opening.result.now c.setup.ensures.setup c.opening.ensures.opening

@@ -7,7 +7,7 @@ use Rattle.step_driver.proofs.putting.put_events.Given as goal
 
 abbrev pub invariant-loop : goal.invariant-loop
 invariant-loop g l = record {
-  at : LoopAt l.script l.machine l.table l.picks l.summary l.counter l.fn.writer l.writer;
+  at : LoopAt l.schedule l.script l.machine l.table l.journals.0 l.picks l.summary l.counter l.fn.writer l.writer;
   begun : l.writer.progress ≡ Progress.Begun;
   count : l.writer.count ≡ l.counter;
   counts : reach l.writer.out ≤ reach l.fn.writer.out + 800 * l.counter;

@@ -1,0 +1,7 @@
+//! Tests of the driving of scripts: driven and serial traces, their summaries, and writes that fail.
+#![tactic(auto)]
+
+#[cfg(test)]
+mod drives;
+#[cfg(test)]
+mod serial;
