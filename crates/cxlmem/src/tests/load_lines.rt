@@ -4,11 +4,14 @@ use crate::Status;
 use std::alloc::{AllocError, Global};
 use std::test::Fail;
 
-const NO_OPERATION: &str = "operations 0\nevents 0\nloads 0\nwords 0\nwholes 0\nsnoops 0\nconflicts 0\nhost evictions 0\nfilter evictions 0\n";
+const NO_OPERATION: &str =
+    "operations 0\nevents 0\nloads 0\nwords 0\nwholes 0\nsnoops 0\nconflicts 0\nhost evictions 0\nfilter evictions 0\n";
 
-const ONE_OPERATION: &str = "operations 1\nevents 7\nloads 1\nwords 0\nwholes 0\nsnoops 0\nconflicts 0\nhost evictions 0\nfilter evictions 0\n";
+const ONE_OPERATION: &str =
+    "operations 1\nevents 7\nloads 1\nwords 0\nwholes 0\nsnoops 0\nconflicts 0\nhost evictions 0\nfilter evictions 0\n";
 
-const A_HUNDRED_OPERATIONS: &str = "operations 100\nevents 1959\nloads 55\nwords 21\nwholes 24\nsnoops 68\nconflicts 2\nhost evictions 6\nfilter evictions 26\n";
+const A_HUNDRED_OPERATIONS: &str =
+    "operations 100\nevents 1959\nloads 55\nwords 21\nwholes 24\nsnoops 68\nconflicts 2\nhost evictions 6\nfilter evictions 26\n";
 
 /// What `load` writes for so many operations, with these writes failing.
 fn load(alloc: Global, count: &str, failing_writes: &[u64]) -> Result<Outcome, AllocError> {
