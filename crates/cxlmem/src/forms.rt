@@ -49,7 +49,9 @@ fn count_of(word: &String) -> Option<u32>
     ensures number { IfSome result (λ n. (n ≤ MAX_OPERATIONS) × (string_bytes word.now ≡ decimal n)) }
     ensures no_number { (n : ℕ) → n ≤ MAX_OPERATIONS → string_bytes word.now ≡ decimal n → result ≢ None }
 {
-    let number = word.as_str().parse::<u32>().ok()?;
+    let Ok(number) = word.as_str().parse::<u32>() else {
+        return None;
+    };
     if number <= MAX_OPERATIONS && is_text(word, Buffer::new().format(number)) {
         Some(number)
     } else {

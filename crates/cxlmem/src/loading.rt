@@ -1,5 +1,5 @@
 // The command `load N`: a large script is made and driven, and its summary is written.
-ghost use Rattle.std.specs.Prelude.{◌≡◌, ◌≢◌, ◌^◌, ◌<◌, ◌≤◌, [], IfOk, IsErrOf, ⊥};
+ghost use Rattle.std.specs.Prelude.{◌≡◌, ◌⊎◌, ◌^◌, ◌<◌, ◌≤◌, IfOk};
 ghost use Rattle.std.specs.Io.KnownBytes.{Appends};
 ghost use Rattle.coherence_model.specs.Driven.{driven_trace};
 ghost use Rattle.script_text.specs.Generator.{generated};
@@ -7,7 +7,7 @@ ghost use Rattle.script_text.specs.declared.limits.TheConstants.{MAX_OPERATIONS}
 ghost use Rattle.step_driver.specs.Summaries.{summary_of};
 ghost use Rattle.cxlmem.specs.Loads.{load_text};
 ghost use Rattle.cxlmem.specs.Outcomes.{WritesFront};
-ghost use Rattle.cxlmem.specs.Statuses.{IsAnswer, TellsWriteFault};
+ghost use Rattle.cxlmem.specs.Statuses.{TellsWriteFault};
 
 use crate::ends::Status;
 use crate::summaries::write_summary;

@@ -1,5 +1,5 @@
 // The text of a summary.
-ghost use Rattle.std.specs.Prelude.{◌≡◌, ◌++◌, ◌+◌, ◌^◌, ◌<◌, ◌≤◌, ◌⊎◌, length};
+ghost use Rattle.std.specs.Prelude.{◌≡◌, ◌++◌, ◌+◌, ◌*◌, ◌^◌, ◌<◌, ◌≤◌, ◌⊎◌, length};
 ghost use Rattle.std.specs.Io.KnownBytes.{Appends};
 ghost use Rattle.cxlmem.specs.Loads.{count_line, summary_text};
 ghost use Rattle.cxlmem.specs.Outcomes.{WritesFront};
@@ -20,8 +20,19 @@ pub fn write_summary<K: Sink>(sink: &mut K, summary: &Summary) -> Status
     ensures write_fault { TellsWriteFault (K.faults sink.old) (K.faults sink.new) result }
     ensures nothing_else { (result ≡ Status.Ok) ⊎ (result ≡ Status.WriteFault) }
 {
-    let lines = lines_of(summary);
-    match write_all(sink, lines.as_bytes()) {
+    write_text(sink, lines_of(summary).as_bytes())
+}
+
+/// Writes a text that a command was asked for.
+fn write_text<K: Sink>(sink: &mut K, text: &[u8]) -> Status
+    requires sink_counts { K.highest_count sink.old + 2 * length text.now + 1 < 2 ^ 63 }
+
+    ensures written { result ≡ Status.Ok → Appends (K.gone sink.old) (K.gone sink.new) text.now }
+    ensures cut_short { result ≡ Status.WriteFault → WritesFront (K.gone sink.old) (K.gone sink.new) text.now }
+    ensures write_fault { TellsWriteFault (K.faults sink.old) (K.faults sink.new) result }
+    ensures nothing_else { (result ≡ Status.Ok) ⊎ (result ≡ Status.WriteFault) }
+{
+    match write_all(sink, text) {
         Ok(()) => Status::Ok,
         Err(_) => Status::WriteFault,
     }

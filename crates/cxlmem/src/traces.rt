@@ -12,6 +12,7 @@ use step_driver::DriveRefusal;
 use trace_stream::TraceWriter;
 
 /// Writes the driven trace of a script, in pieces, as it is driven.
+#[tactic(auto, using(crate::proofs::Fronts::front_of))]
 pub fn write_trace<K: Sink>(alloc: Global, script: &Script, sink: &mut K) -> Status
     requires sink_counts { K.highest_count sink.old < 2 ^ 62 }
 

@@ -1,5 +1,5 @@
 -- The operation that a stream is offered begins.
-use Rattle.std.proofs.Common.{Bool, List, Option, Some, None, [], ap, arith, false, get_or, length, refl, sym, true, ℕ, ◌<◌, ◌∷◌, ◌≡◌, ◌∙◌}
+use Rattle.std.proofs.Common.{List, Option, Some, None, [], ap, arith, get_or, length, refl, sym, true, ℕ, ◌<◌, ◌≡◌, ◌∙◌}
 use Rattle.std.specs.Prelude.{Err, IfOk, Ok, OnOk, Result, is_ok, slice_get}
 use Rattle.std.specs.Option.{option_map_or}
 use Rattle.std.specs.Result.{result_ok}

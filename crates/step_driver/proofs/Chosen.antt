@@ -1,5 +1,5 @@
 -- The choice of a number is the next step there, or past the next steps what a stream is offered.
-use Rattle.std.proofs.Common.{List, Option, Some, None, [], ap, arith, length, length-append, refl, sym, ℕ, ◌++◌, ◌+◌, ◌-◌, ◌<◌, ◌≡◌, ◌≤◌, ◌∙◌, ◌∷◌}
+use Rattle.std.proofs.Common.{List, None, [], ap, arith, length, length-append, refl, sym, ℕ, ◌++◌, ◌+◌, ◌-◌, ◌<◌, ◌≡◌, ◌≤◌, ◌∙◌, ◌∷◌}
 use Rattle.std.specs.Prelude.{slice_get, ◌%◌}
 use Rattle.std.proofs.Math.Nat.{zero-mod}
 use Rattle.cxl_message.specs.declared.events.Event.{Event}
@@ -14,7 +14,7 @@ use Rattle.machine.specs.Stands.{MachineRecord, WhereStands}
 use Rattle.machine.specs.Steps.{IsChoice}
 use Rattle.step_driver.specs.declared.table.StreamTable.{StreamTable}
 use Rattle.step_driver.specs.Driver.{IsKept}
-use Rattle.step_driver.specs.Picks.{IsOfferAt, IsOfferOf, chosen, offers}
+use Rattle.step_driver.specs.Picks.{chosen, offers}
 
 -- the next steps of a script after a trace
 abbrev pub steps_of : ScriptValue → List Event → List Event

@@ -1,5 +1,5 @@
 -- How far the loop is that puts the events of a trace.
-use Rattle.std.proofs.Common.{List, Option, [], ap, arith, length, refl, reverse, subst, sym, ℕ, ◌++◌, ◌+◌, ◌*◌, ◌≤◌, ◌∙◌, ◌≡◌, ◌∷◌}
+use Rattle.std.proofs.Common.{List, Option, [], ap, arith, length, refl, reverse, subst, sym, ℕ, ◌++◌, ◌+◌, ◌≤◌, ◌∙◌, ◌≡◌, ◌∷◌}
 use Rattle.std.specs.Prelude.{OnErr, Ok, Err, Result}
 use Rattle.std.proofs.lemmas.List.{reverse-append}
 use Rattle.cxl_message.specs.declared.events.Event.{Event}

@@ -1,8 +1,8 @@
 -- Scans over the streams of a script.
-use Rattle.std.proofs.Common.{Bool, List, Option, Some, None, [], ap, arith, drop, false, get_or, length, length-append, sym, true, ℕ, ◌&&◌, ◌++◌, ◌+◌, ◌-◌, ◌<◌, ◌≡◌, ◌≢◌, ◌≤◌, ◌∙◌, ◌∷◌, refl, zero, suc}
+use Rattle.std.proofs.Common.{Bool, List, Some, None, [], ap, arith, drop, false, get_or, length, length-append, sym, true, ℕ, ◌&&◌, ◌++◌, ◌+◌, ◌-◌, ◌<◌, ◌≡◌, ◌≢◌, ◌≤◌, ◌∙◌, ◌∷◌, refl, zero, suc}
 use Rattle.std.specs.List.{list_all}
-use Rattle.std.specs.Prelude.{flat_map, is_some, option_to_list, slice_get}
-use Rattle.std.proofs.lemmas.Bool.{eq-eqb, false≢true, ne_eqb}
+use Rattle.std.specs.Prelude.{flat_map, slice_get}
+use Rattle.std.proofs.lemmas.Bool.{eq-eqb, ne_eqb}
 use Rattle.std.proofs.lemmas.List.{drop_all, drop_more}
 use Rattle.std.proofs.lemmas.List.Concat.{flat_map-cons}
 use Rattle.std.proofs.lemmas.Option.{get_or_from_slice_get, same_Some, slice_get-get_or, slice_get_within}
@@ -15,7 +15,7 @@ use Rattle.coherence_model.specs.Traces.{events_of}
 use Rattle.choice_laws.specs.Answered.{next_answer}
 use Rattle.commit_laws.proofs.Streams.{stream_at}
 use Rattle.step_driver.specs.Picks.{IsOfferOf}
-use Rattle.step_driver.specs.Driver.{IsAsked, IsCounted, IsNext, IsStreamOf, IsTold, one_if}
+use Rattle.step_driver.specs.Driver.{IsAsked, IsCounted, IsStreamOf, one_if}
 
 -- ---- lists
 

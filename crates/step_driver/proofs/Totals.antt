@@ -1,5 +1,5 @@
 -- How much the numbers of a summary rise at most.
-use Rattle.std.proofs.Common.{List, Option, Some, None, [], ◌∷◌, ◌+◌, ◌*◌, ◌≤◌, arith, length, ℕ}
+use Rattle.std.proofs.Common.{List, Option, Some, None, [], ◌∷◌, ◌+◌, ◌*◌, ◌≤◌, arith, length}
 use Rattle.cxl_message.specs.declared.events.Act.{Act}
 use Rattle.cxl_message.specs.declared.events.Cause.{Cause}
 use Rattle.cxl_message.specs.declared.events.Commit.{Commit}

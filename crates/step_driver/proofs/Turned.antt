@@ -1,6 +1,6 @@
 -- One turn of driving: the event that is chosen is made, and the table follows.
-use Rattle.std.proofs.Common.{Bool, List, Option, Some, None, [], inl, inr, ap, arith, cond, false, get_or, length, refl, set, subst, sym, true, zero, suc, ℕ, ◌&&◌, ◌+◌, ◌<◌, ◌≡◌, ◌≤◌, ◌∙◌, ◌∷◌, IsTrue}
-use Rattle.std.specs.Prelude.{Err, Result, is_none, is_ok, not, slice_get, unwrap_or, ◌%◌, ◌==◌}
+use Rattle.std.proofs.Common.{Bool, List, Option, Some, None, [], inl, inr, ap, arith, cond, false, get_or, length, refl, set, sym, true, zero, suc, ℕ, ◌&&◌, ◌+◌, ◌<◌, ◌≡◌, ◌≤◌, ◌∙◌, ◌∷◌, IsTrue}
+use Rattle.std.specs.Prelude.{Result, is_none, is_ok, not, slice_get, unwrap_or, ◌%◌, ◌==◌}
 use Rattle.std.specs.Option.{option_map_or}
 use Rattle.std.proofs.Math.Nat.{mod-lt}
 use Rattle.std.proofs.lemmas.Bool.{and_parts, cases_Bool, eq-eqb, eqb-true, eqb-false, false≢true, ltb-true, ne_eqb}
@@ -12,7 +12,6 @@ use Rattle.cxl_message.specs.declared.events.Op.{Op}
 use Rattle.cxl_message.specs.declared.identifiers.Bytes64.{Bytes64}
 use Rattle.cxl_message.specs.declared.identifiers.Line.{Line}
 use Rattle.cxl_message.specs.declared.states.RuleNo.{RuleNo}
-use Rattle.cxl_message.specs.Formed.{well_formed}
 use Rattle.cxl_message.specs.Script.{ScriptValue}
 use Rattle.cxl_message.specs.Setup.{Configuration}
 use Rattle.answer_laws.specs.Answered.{answered_steps}
@@ -29,12 +28,12 @@ use Rattle.coherence_model.specs.Traces.{events_of}
 use Rattle.commit_laws.proofs.OwnStreams.{in_order_parts}
 use Rattle.commit_laws.proofs.Scripted.{IsOfScript}
 use Rattle.driven_laws.proofs.Ending.{has_choice}
-use Rattle.driven_laws.proofs.Reached.{reached_is_run, reached_scripted}
+use Rattle.driven_laws.proofs.Reached.{reached_scripted}
 use Rattle.driven_laws.specs.Reached.{IsReached}
 use Rattle.driven_laws.specs.Scripts.{IsDrivable}
 use Rattle.machine.specs.Stands.{MachineRecord, StandsFor, verdict}
 use Rattle.step_driver.specs.declared.table.StreamTable.{StreamTable}
-use Rattle.step_driver.specs.Driver.{IsCounted, IsKept, IsKnown, IsStreamOf, MayCount, counts_after, noted, one_counted}
+use Rattle.step_driver.specs.Driver.{IsCounted, IsKept, IsKnown, MayCount, counts_after, noted, one_counted}
 use Rattle.step_driver.specs.Picks.{IsTurned, chosen}
 
 -- ---- what a run breaks

@@ -1,19 +1,18 @@
 -- The way to the trace that is put, turn by turn.
-use Rattle.std.proofs.Common.{IsTrue, List, Some, None, [], ap, arith, cond, false, get_or, inl, inr, length, refl, replicate, sym, subst, true, zero, suc, Bool, ℕ, ◌+◌, ◌<◌, ◌≡◌, ◌≤◌, ◌∙◌, ◌∷◌}
+use Rattle.std.proofs.Common.{IsTrue, List, Some, [], ap, arith, cond, false, get_or, inl, inr, length, refl, replicate, sym, subst, true, zero, suc, Bool, ℕ, ◌+◌, ◌<◌, ◌≡◌, ◌≤◌, ◌∙◌, ◌∷◌}
 use Rattle.std.specs.Prelude.{nat_lt, slice_get, ◌%◌, ◌*◌, ◌-◌, ◌==◌, ◌||◌}
 use Rattle.std.proofs.Math.Nat.{mul-le-mul_right}
-use Rattle.std.proofs.lemmas.Bool.{and_parts, cases_Bool, eq-eqb, eqb-false, eqb-true, false≢true, ltb-false, ltb-true, or_cases}
+use Rattle.std.proofs.lemmas.Bool.{and_parts, cases_Bool, eqb-false, eqb-true, false≢true, ltb-false, ltb-true, or_cases}
 use Rattle.std.proofs.lemmas.List.{get_or-set_other, get_or-set_same, length-set}
 use Rattle.std.proofs.lemmas.Option.{none-some, same_Some}
 use Rattle.cxl_codec.specs.VersionOne.{fits_version_one}
 use Rattle.cxl_message.specs.declared.events.Event.{Event}
-use Rattle.cxl_message.specs.declared.limits.TheConstants.{DEVICE}
 use Rattle.cxl_message.specs.Formed.{well_formed}
 use Rattle.cxl_message.specs.Script.{ScriptValue}
 use Rattle.choice_laws.proofs.Choices.{way_goes_by_number}
 use Rattle.coherence_model.specs.Choices.{choices, is_done}
 use Rattle.coherence_model.specs.Driven.{operation_count, pick_from, pick_now, picks_left, without_picks}
-use Rattle.coherence_model.specs.Fitting.{is_device, is_host}
+use Rattle.coherence_model.specs.Fitting.{is_device}
 use Rattle.coherence_model.specs.Traces.{events_of}
 use Rattle.driven_laws.proofs.Ending.{reached_is_short}
 use Rattle.driven_laws.proofs.OnTheWay.{way_begins, way_ends}

@@ -1,5 +1,5 @@
 -- What a trace has of operations, events and messages. Every rule here is an own rule.
-use Rattle.std.specs.Prelude.{List, None, Option, Some, [], ℕ, ◌+◌, ◌∷◌, ◌≤◌}
+use Rattle.std.specs.Prelude.{List, None, Option, Some, [], ℕ, ◌+◌, ◌∷◌}
 use Rattle.cxl_message.specs.declared.events.Act.{Act}
 use Rattle.cxl_message.specs.declared.events.Cause.{Cause}
 use Rattle.cxl_message.specs.declared.events.Commit.{Commit}

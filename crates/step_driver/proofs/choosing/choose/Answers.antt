@@ -1,7 +1,7 @@
 -- What is chosen is a next step by its number, or what a stream is offered behind those.
-use Rattle.std.proofs.Common.{Some, None, ap, arith, subst, sym, ◌+◌, ◌-◌, ◌<◌, ◌≡◌, ◌≤◌, ◌∙◌}
+use Rattle.std.proofs.Common.{ap, arith, subst, sym, ◌+◌, ◌-◌, ◌<◌, ◌≡◌, ◌≤◌, ◌∙◌}
 use Rattle.std.specs.Prelude.{slice_get, ◌%◌}
-use Rattle.step_driver.specs.Picks.{IsOfferAt, IsOfferOf, offers}
+use Rattle.step_driver.specs.Picks.{IsOfferOf, offers}
 use Rattle.step_driver.proofs.Chosen.{below_is_choice, choice_count, nothing_is_chosen, offer_is_chosen, step_is_chosen, steps_are_few}
 use Rattle.step_driver.proofs.choosing.choose.Goals as goal
 

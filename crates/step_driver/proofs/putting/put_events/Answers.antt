@@ -1,5 +1,5 @@
 -- The loop goes on by each turn, and ends at the trace that is put.
-use Rattle.std.proofs.Common.{List, ap, arith, refl, subst, sym, ℕ, ◌+◌, ◌∙◌, ◌≡◌, ◌∷◌}
+use Rattle.std.proofs.Common.{ap, arith, refl, subst, sym, ◌+◌, ◌∙◌}
 use Rattle.coherence_model.specs.Driven.{picks_left}
 use Rattle.trace_stream.proofs.Costs.{no_fault}
 use Rattle.step_driver.specs.Driver.{empty_table}

@@ -1,5 +1,5 @@
 -- What the host of an offered stream answers is made, and breaks no rule.
-use Rattle.std.proofs.Common.{Some, ap, arith, get_or, subst, sym, ◌<◌, ◌∙◌, ◌∷◌}
+use Rattle.std.proofs.Common.{ap, arith, get_or, subst, sym, ◌<◌, ◌∙◌, ◌∷◌}
 use Rattle.cxl_message.specs.declared.events.Cause.{Cause}
 use Rattle.cxl_message.specs.declared.events.Op.{Op}
 use Rattle.cxl_message.specs.Setup.{stream_host}

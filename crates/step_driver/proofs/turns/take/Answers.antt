@@ -1,4 +1,4 @@
-use Rattle.std.proofs.Common.{Some, subst, ◌∙◌}
+use Rattle.std.proofs.Common.{Some, subst}
 use Rattle.step_driver.specs.Picks.{IsChosen}
 use Rattle.step_driver.proofs.turns.take.Goals as goal
 

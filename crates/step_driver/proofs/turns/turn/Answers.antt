@@ -1,6 +1,6 @@
 -- A turn makes the choice of a pick, or all is done.
-use Rattle.std.proofs.Common.{Some, subst, sym, ◌∙◌}
-use Rattle.step_driver.specs.Picks.{IsChosen, IsTurned}
+use Rattle.std.proofs.Common.{subst, sym, ◌∙◌}
+use Rattle.step_driver.specs.Picks.{IsTurned}
 use Rattle.step_driver.proofs.Turned.{has_chosen, may_count, turned}
 use Rattle.step_driver.proofs.turns.turn.Goals as goal
 

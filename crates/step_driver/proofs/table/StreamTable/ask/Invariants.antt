@@ -1,5 +1,5 @@
 -- The streams so far are told, and what was kept is.
-use Rattle.std.proofs.Common.{List, ◌<◌, ◌≡◌}
+use Rattle.std.proofs.Common.{List, ◌<◌}
 use Rattle.cxl_message.specs.declared.events.Event.{Event as AnEvent}
 use Rattle.coherence_model.specs.Choices.{Stream}
 use Rattle.step_driver.specs.Driver.{IsKept, IsStreamOf, IsTold}

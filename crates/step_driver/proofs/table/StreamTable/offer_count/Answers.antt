@@ -1,5 +1,5 @@
 -- One stream after another is counted where its host offers an operation.
-use Rattle.std.proofs.Common.{List, ap, arith, false, length, subst, sym, true, ℕ, ◌+◌, ◌<◌, ◌∙◌, ◌≡◌, ◌≤◌}
+use Rattle.std.proofs.Common.{List, ap, arith, false, length, subst, sym, true, ℕ, ◌+◌, ◌<◌, ◌∙◌, ◌≡◌}
 use Rattle.step_driver.proofs.Scans.{CountedTo, all_counted, counted_more}
 use Rattle.step_driver.proofs.table.StreamTable.offer_count.Goals.{else-self-stream, then-self-stream}
 use Rattle.step_driver.proofs.table.StreamTable.offer_count.Goals as goal
