@@ -6,10 +6,11 @@ mod encoding;
 
 use anyhow::{Result, bail};
 use encoding::encode_events;
-use outside_io::{StdSink, StdSource, read_all, write_all};
+use outside_io::{StdSource, read_all};
 use script_text::{MAX_OPERATIONS, generate, print_script};
 use std::alloc::Global;
 use std::env;
+use std::io::Write;
 use std::rt::Env;
 
 /// The most bytes of a trace that are read.
@@ -58,7 +59,7 @@ fn main(rt: HostRuntime) -> Result<()> {
         }
         Some(Work::Script(operations)) => {
             let text = script_text_of(rt.alloc(), operations)?;
-            write_all(&mut StdSink::new(rt.stdout()), &text)?;
+            rt.stdout().write_all(&text)?;
         }
         None => bail!("usage: drive_bench encode ROUNDS | script OPERATIONS"),
     }
