@@ -1,4 +1,6 @@
 // What a drive writes and answers, into a sink that fails at some writes.
+ghost use Rattle.std.specs.Prelude.{◌≤◌, length};
+
 use outside_io::{CountSink, MemSink};
 use script_text::parse_script;
 use std::alloc::Global;
@@ -38,7 +40,9 @@ pub const SUMMARY_OF_ONE_LOAD: Summary = Summary {
 };
 
 /// Calls `drive` or `drive_within` with the script of a text, with these writes of one byte failing.
-pub fn run(alloc: Global, call: Call, text: &str, failing_writes: &[u64]) -> Result<Outcome, Fail> {
+pub fn run(alloc: Global, call: Call, text: &str, failing_writes: &[u64]) -> Result<Outcome, Fail>
+    requires { length text.now ≤ 1000 }
+{
     let script = parse_script(alloc, text.as_bytes())?;
     let mut sink = MemSink::new(alloc, 4000, 1, Vec::from_slice(alloc, failing_writes)?)?;
     let mut writer = TraceWriter::new(alloc, &mut sink)?;
