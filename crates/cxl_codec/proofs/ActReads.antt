@@ -6,6 +6,7 @@ use Rattle.std.proofs.lemmas.Bool.{lt-ltb, ltb-true, and_parts, and_from}
 use Rattle.cxl_message.specs.declared.events.Op.{Op}
 use Rattle.cxl_message.specs.declared.events.Act.{Act}
 use Rattle.cxl_message.specs.Formed.{place_exists, act_formed}
+use Rattle.cxl_codec.specs.declared.versions.Version.{Version}
 use Rattle.cxl_codec.specs.declared.fields.FieldName.{FieldName}
 use Rattle.cxl_codec.specs.declared.kinds.OpKind.{OpKind}
 use Rattle.cxl_codec.specs.declared.kinds.ActKind.{ActKind}
@@ -107,78 +108,79 @@ op_meets = record { sound = op_sound; complete = op_read }
 
 -- ---- acts
 
--- an act that has cells
-abbrev pub ActFits : Act → Type 0
-ActFits a = IsTrue (act_formed a) × ActInRange a
+module _ (version : Version) where
+  -- an act that has cells
+  abbrev pub ActFits : Act → Type 0
+  ActFits a = IsTrue (act_formed a) × (ActInRange version) a
 
--- what is read after the kind byte of an act
-act_fields_sound : (k : ActKind) → Sound (After (Spells ActFits act_cells) (kind (act_kind_code k) ∷ [])) (act_fields_at k)
-unfolding act_fields_at
-act_fields_sound (ActKind.Line LineActKind.Conflict) = ends_sound _ _ _ line_meets _ (λ line. Act.Conflict (record { 0 = line })) (λ line l. ((refl, l), refl))
-act_fields_sound (ActKind.Line LineActKind.WriteBack) = ends_sound _ _ _ line_meets _ (λ line. Act.WriteBack (record { 0 = line })) (λ line l. ((refl, l), refl))
-act_fields_sound (ActKind.Line LineActKind.Answer) = ends_sound _ _ _ line_meets _ (λ line. Act.Answer (record { 0 = line })) (λ line l. ((refl, l), refl))
-act_fields_sound (ActKind.Line LineActKind.AnswerBlock) = ends_sound _ _ _ line_meets _ (λ line. Act.AnswerBlock (record { 0 = line })) (λ line l. ((refl, l), refl))
-act_fields_sound ActKind.HostReturn = ends_sound _ _ _ channel_meets _ (λ channel. Act.HostReturn channel) (λ channel c. ((c, tt), refl))
-act_fields_sound (ActKind.Tagged TaggedActKind.Serve) =
-    then_sound _ _ _ host_meets _ _ (λ host h.
-    ends_sound _ _ _ tag_meets _ (λ tag. Act.Serve host (record { 0 = tag })) (λ tag t. ((below_next 15 16 host refl h, t), refl)))
-act_fields_sound (ActKind.Tagged TaggedActKind.Clean) =
-    then_sound _ _ _ host_meets _ _ (λ host h.
-    ends_sound _ _ _ tag_meets _ (λ tag. Act.Clean host (record { 0 = tag })) (λ tag t. ((below_next 15 16 host refl h, t), refl)))
-act_fields_sound (ActKind.Tagged TaggedActKind.Start) =
-    then_sound _ _ _ host_meets _ _ (λ host h.
-    ends_sound _ _ _ tag_meets _ (λ tag. Act.Start host (record { 0 = tag })) (λ tag t. ((below_next 15 16 host refl h, t), refl)))
-act_fields_sound (ActKind.Tagged TaggedActKind.Evict) =
-    then_sound _ _ _ host_meets _ _ (λ host h.
-    ends_sound _ _ _ tag_meets _ (λ tag. Act.Evict host (record { 0 = tag })) (λ tag t. ((below_next 15 16 host refl h, t), refl)))
-act_fields_sound ActKind.Snoop =
-    then_sound _ _ _ host_meets _ _ (λ host h.
-    ends_sound _ _ _ line_meets _ (λ line. Act.Snoop host (record { 0 = line })) (λ line l. ((below_next 15 16 host refl h, l), refl)))
-act_fields_sound (ActKind.Line LineActKind.Finish) = ends_sound _ _ _ line_meets _ (λ line. Act.Finish (record { 0 = line })) (λ line l. ((refl, l), refl))
-act_fields_sound ActKind.DeviceReturn =
-    then_sound _ _ _ host_meets _ _ (λ host h.
-    ends_sound _ _ _ channel_meets _ (λ channel. Act.DeviceReturn host channel) (λ channel c. ((and_from _ _ (below_next 15 16 host refl h) c, tt), refl)))
+  -- what is read after the kind byte of an act
+  act_fields_sound : (k : ActKind) → Sound (After (Spells ActFits (act_cells version)) (kind (act_kind_code k) ∷ [])) ((act_fields_at version) k)
+  unfolding act_fields_at
+  act_fields_sound (ActKind.Line LineActKind.Conflict) = ends_sound _ _ _ line_meets _ (λ line. Act.Conflict (record { 0 = line })) (λ line l. ((refl, l), refl))
+  act_fields_sound (ActKind.Line LineActKind.WriteBack) = ends_sound _ _ _ line_meets _ (λ line. Act.WriteBack (record { 0 = line })) (λ line l. ((refl, l), refl))
+  act_fields_sound (ActKind.Line LineActKind.Answer) = ends_sound _ _ _ line_meets _ (λ line. Act.Answer (record { 0 = line })) (λ line l. ((refl, l), refl))
+  act_fields_sound (ActKind.Line LineActKind.AnswerBlock) = ends_sound _ _ _ line_meets _ (λ line. Act.AnswerBlock (record { 0 = line })) (λ line l. ((refl, l), refl))
+  act_fields_sound ActKind.HostReturn = ends_sound _ _ _ channel_meets _ (λ channel. Act.HostReturn channel) (λ channel c. ((c, tt), refl))
+  act_fields_sound (ActKind.Tagged TaggedActKind.Serve) =
+      then_sound _ _ _ host_meets _ _ (λ host h.
+      ends_sound _ _ _ (tag_meets version) _ (λ tag. Act.Serve host (record { 0 = tag })) (λ tag t. ((below_next 15 16 host refl h, t), refl)))
+  act_fields_sound (ActKind.Tagged TaggedActKind.Clean) =
+      then_sound _ _ _ host_meets _ _ (λ host h.
+      ends_sound _ _ _ (tag_meets version) _ (λ tag. Act.Clean host (record { 0 = tag })) (λ tag t. ((below_next 15 16 host refl h, t), refl)))
+  act_fields_sound (ActKind.Tagged TaggedActKind.Start) =
+      then_sound _ _ _ host_meets _ _ (λ host h.
+      ends_sound _ _ _ (tag_meets version) _ (λ tag. Act.Start host (record { 0 = tag })) (λ tag t. ((below_next 15 16 host refl h, t), refl)))
+  act_fields_sound (ActKind.Tagged TaggedActKind.Evict) =
+      then_sound _ _ _ host_meets _ _ (λ host h.
+      ends_sound _ _ _ (tag_meets version) _ (λ tag. Act.Evict host (record { 0 = tag })) (λ tag t. ((below_next 15 16 host refl h, t), refl)))
+  act_fields_sound ActKind.Snoop =
+      then_sound _ _ _ host_meets _ _ (λ host h.
+      ends_sound _ _ _ line_meets _ (λ line. Act.Snoop host (record { 0 = line })) (λ line l. ((below_next 15 16 host refl h, l), refl)))
+  act_fields_sound (ActKind.Line LineActKind.Finish) = ends_sound _ _ _ line_meets _ (λ line. Act.Finish (record { 0 = line })) (λ line l. ((refl, l), refl))
+  act_fields_sound ActKind.DeviceReturn =
+      then_sound _ _ _ host_meets _ _ (λ host h.
+      ends_sound _ _ _ channel_meets _ (λ channel. Act.DeviceReturn host channel) (λ channel c. ((and_from _ _ (below_next 15 16 host refl h) c, tt), refl)))
 
--- an act that is read is spelled so
-act_sound : Sound (Spells ActFits act_cells) act_at
-unfolding act_at
-act_sound = then_sound _ _ _ act_kind_meets _ _ (λ k _. act_fields_sound k)
+  -- an act that is read is spelled so
+  act_sound : Sound (Spells ActFits (act_cells version)) (act_at version)
+  unfolding act_at
+  act_sound = then_sound _ _ _ act_kind_meets _ _ (λ k _. act_fields_sound k)
 
--- an act that is spelled is read again
-act_read : (a : Act) → ActFits a → IsRead act_at a (act_cells a)
-unfolding act_at act_fields_at
-act_read (Act.Conflict line) fits =
-    then_read _ _ _ (act_kind_meets.complete (ActKind.Line LineActKind.Conflict) tt) _ _ _ (ends_read _ _ _ (line_meets.complete line.0 fits.1) (λ line. Act.Conflict (record { 0 = line })))
-act_read (Act.WriteBack line) fits =
-    then_read _ _ _ (act_kind_meets.complete (ActKind.Line LineActKind.WriteBack) tt) _ _ _ (ends_read _ _ _ (line_meets.complete line.0 fits.1) (λ line. Act.WriteBack (record { 0 = line })))
-act_read (Act.Answer line) fits =
-    then_read _ _ _ (act_kind_meets.complete (ActKind.Line LineActKind.Answer) tt) _ _ _ (ends_read _ _ _ (line_meets.complete line.0 fits.1) (λ line. Act.Answer (record { 0 = line })))
-act_read (Act.AnswerBlock line) fits =
-    then_read _ _ _ (act_kind_meets.complete (ActKind.Line LineActKind.AnswerBlock) tt) _ _ _ (ends_read _ _ _ (line_meets.complete line.0 fits.1) (λ line. Act.AnswerBlock (record { 0 = line })))
-act_read (Act.HostReturn channel) fits =
-    then_read _ _ _ (act_kind_meets.complete ActKind.HostReturn tt) _ _ _ (ends_read _ _ _ (channel_meets.complete channel fits.0) (λ channel. Act.HostReturn channel))
-act_read (Act.Serve host tag) fits =
-    then_read _ _ _ (act_kind_meets.complete (ActKind.Tagged TaggedActKind.Serve) tt) _ _ _
-    (then_read _ _ _ (host_meets.complete host (within_from 15 16 host refl fits.0)) _ _ _ (ends_read _ _ _ (tag_meets.complete tag.0 fits.1) (λ tag. Act.Serve host (record { 0 = tag }))))
-act_read (Act.Clean host tag) fits =
-    then_read _ _ _ (act_kind_meets.complete (ActKind.Tagged TaggedActKind.Clean) tt) _ _ _
-    (then_read _ _ _ (host_meets.complete host (within_from 15 16 host refl fits.0)) _ _ _ (ends_read _ _ _ (tag_meets.complete tag.0 fits.1) (λ tag. Act.Clean host (record { 0 = tag }))))
-act_read (Act.Start host tag) fits =
-    then_read _ _ _ (act_kind_meets.complete (ActKind.Tagged TaggedActKind.Start) tt) _ _ _
-    (then_read _ _ _ (host_meets.complete host (within_from 15 16 host refl fits.0)) _ _ _ (ends_read _ _ _ (tag_meets.complete tag.0 fits.1) (λ tag. Act.Start host (record { 0 = tag }))))
-act_read (Act.Evict host tag) fits =
-    then_read _ _ _ (act_kind_meets.complete (ActKind.Tagged TaggedActKind.Evict) tt) _ _ _
-    (then_read _ _ _ (host_meets.complete host (within_from 15 16 host refl fits.0)) _ _ _ (ends_read _ _ _ (tag_meets.complete tag.0 fits.1) (λ tag. Act.Evict host (record { 0 = tag }))))
-act_read (Act.Snoop host line) fits =
-    then_read _ _ _ (act_kind_meets.complete ActKind.Snoop tt) _ _ _
-    (then_read _ _ _ (host_meets.complete host (within_from 15 16 host refl fits.0)) _ _ _ (ends_read _ _ _ (line_meets.complete line.0 fits.1) (λ line. Act.Snoop host (record { 0 = line }))))
-act_read (Act.Finish line) fits =
-    then_read _ _ _ (act_kind_meets.complete (ActKind.Line LineActKind.Finish) tt) _ _ _ (ends_read _ _ _ (line_meets.complete line.0 fits.1) (λ line. Act.Finish (record { 0 = line })))
-act_read (Act.DeviceReturn host channel) fits =
-    let parts = and_parts _ _ fits.0 in
-    then_read _ _ _ (act_kind_meets.complete ActKind.DeviceReturn tt) _ _ _
-    (then_read _ _ _ (host_meets.complete host (within_from 15 16 host refl parts.0)) _ _ _ (ends_read _ _ _ (channel_meets.complete channel parts.1) (λ channel. Act.DeviceReturn host channel)))
+  -- an act that is spelled is read again
+  act_read : (a : Act) → ActFits a → IsRead (act_at version) a ((act_cells version) a)
+  unfolding act_at act_fields_at
+  act_read (Act.Conflict line) fits =
+      then_read _ _ _ (act_kind_meets.complete (ActKind.Line LineActKind.Conflict) tt) _ _ _ (ends_read _ _ _ (line_meets.complete line.0 fits.1) (λ line. Act.Conflict (record { 0 = line })))
+  act_read (Act.WriteBack line) fits =
+      then_read _ _ _ (act_kind_meets.complete (ActKind.Line LineActKind.WriteBack) tt) _ _ _ (ends_read _ _ _ (line_meets.complete line.0 fits.1) (λ line. Act.WriteBack (record { 0 = line })))
+  act_read (Act.Answer line) fits =
+      then_read _ _ _ (act_kind_meets.complete (ActKind.Line LineActKind.Answer) tt) _ _ _ (ends_read _ _ _ (line_meets.complete line.0 fits.1) (λ line. Act.Answer (record { 0 = line })))
+  act_read (Act.AnswerBlock line) fits =
+      then_read _ _ _ (act_kind_meets.complete (ActKind.Line LineActKind.AnswerBlock) tt) _ _ _ (ends_read _ _ _ (line_meets.complete line.0 fits.1) (λ line. Act.AnswerBlock (record { 0 = line })))
+  act_read (Act.HostReturn channel) fits =
+      then_read _ _ _ (act_kind_meets.complete ActKind.HostReturn tt) _ _ _ (ends_read _ _ _ (channel_meets.complete channel fits.0) (λ channel. Act.HostReturn channel))
+  act_read (Act.Serve host tag) fits =
+      then_read _ _ _ (act_kind_meets.complete (ActKind.Tagged TaggedActKind.Serve) tt) _ _ _
+      (then_read _ _ _ (host_meets.complete host (within_from 15 16 host refl fits.0)) _ _ _ (ends_read _ _ _ ((tag_meets version).complete tag.0 fits.1) (λ tag. Act.Serve host (record { 0 = tag }))))
+  act_read (Act.Clean host tag) fits =
+      then_read _ _ _ (act_kind_meets.complete (ActKind.Tagged TaggedActKind.Clean) tt) _ _ _
+      (then_read _ _ _ (host_meets.complete host (within_from 15 16 host refl fits.0)) _ _ _ (ends_read _ _ _ ((tag_meets version).complete tag.0 fits.1) (λ tag. Act.Clean host (record { 0 = tag }))))
+  act_read (Act.Start host tag) fits =
+      then_read _ _ _ (act_kind_meets.complete (ActKind.Tagged TaggedActKind.Start) tt) _ _ _
+      (then_read _ _ _ (host_meets.complete host (within_from 15 16 host refl fits.0)) _ _ _ (ends_read _ _ _ ((tag_meets version).complete tag.0 fits.1) (λ tag. Act.Start host (record { 0 = tag }))))
+  act_read (Act.Evict host tag) fits =
+      then_read _ _ _ (act_kind_meets.complete (ActKind.Tagged TaggedActKind.Evict) tt) _ _ _
+      (then_read _ _ _ (host_meets.complete host (within_from 15 16 host refl fits.0)) _ _ _ (ends_read _ _ _ ((tag_meets version).complete tag.0 fits.1) (λ tag. Act.Evict host (record { 0 = tag }))))
+  act_read (Act.Snoop host line) fits =
+      then_read _ _ _ (act_kind_meets.complete ActKind.Snoop tt) _ _ _
+      (then_read _ _ _ (host_meets.complete host (within_from 15 16 host refl fits.0)) _ _ _ (ends_read _ _ _ (line_meets.complete line.0 fits.1) (λ line. Act.Snoop host (record { 0 = line }))))
+  act_read (Act.Finish line) fits =
+      then_read _ _ _ (act_kind_meets.complete (ActKind.Line LineActKind.Finish) tt) _ _ _ (ends_read _ _ _ (line_meets.complete line.0 fits.1) (λ line. Act.Finish (record { 0 = line })))
+  act_read (Act.DeviceReturn host channel) fits =
+      let parts = and_parts _ _ fits.0 in
+      then_read _ _ _ (act_kind_meets.complete ActKind.DeviceReturn tt) _ _ _
+      (then_read _ _ _ (host_meets.complete host (within_from 15 16 host refl parts.0)) _ _ _ (ends_read _ _ _ (channel_meets.complete channel parts.1) (λ channel. Act.DeviceReturn host channel)))
 
--- the reader of acts meets the grammar
-pub act_meets : Meets ActFits act_cells act_at
-act_meets = record { sound = act_sound; complete = act_read }
+  -- the reader of acts meets the grammar
+  pub act_meets : Meets ActFits (act_cells version) (act_at version)
+  act_meets = record { sound = act_sound; complete = act_read }

@@ -7,9 +7,12 @@ pub mod MessageReads
 pub mod ActReads
 pub mod EventReads
 pub mod FileReads
+pub mod HeaderReads
+pub mod NameReads
 pub mod Meanings
 pub mod OneAnswer
 pub mod TraceReads
 pub mod ZeroRuns
 pub mod RoomReads
 pub mod Puts
+pub mod TagRoom

@@ -12,7 +12,7 @@ use Rattle.cxl_codec.specs.declared.faults.Fault.{Fault}
 use Rattle.cxl_codec.specs.declared.fields.FieldName.{FieldName}
 use Rattle.cxl_codec.specs.Cells.{Label, kind_byte, named, unnamed, Cell, kind, field, free, number, payload}
 use Rattle.cxl_codec.specs.Openings.{IsPayload}
-use Rattle.cxl_codec.specs.Reading.{Read, ◌>>=◌, one, kind_of, field_of, within, block_at, number_at, free_at, payload_at, run_at}
+use Rattle.cxl_codec.specs.Reading.{Read, ◌>>=◌, one, kind_of, field_of, within, block_at, number_at, free_at, payload_at, bytes_at, run_at}
 use Rattle.cxl_codec.proofs.CellBytes.{bytes_of_free}
 use Rattle.cxl_codec.proofs.Outcomes.{IsBytes, Found, Cut, Wrong, Outcome, Sound, After, Refused, IsRead, Spells, Meets, then_sound, done_sound, ends_sound, then_read, done_read, ends_read, nil_no_place}
 
@@ -248,8 +248,8 @@ module _ (n : ℕ) where
 -- ---- numbers and payloads
 
 -- each place of bytes has a byte
-bytes_at : (bs : List ℕ) → IsBytes bs → (i : ℕ) → get_or bs i 0 < 256
-bytes_at bs each i =
+each_byte : (bs : List ℕ) → IsBytes bs → (i : ℕ) → get_or bs i 0 < 256
+each_byte bs each i =
     elim (cases_lt i (length bs)) [
       | inl lt ↦ each i 0 lt
       | inr le ↦ rw (get_or_past bs i 0 le) (omega arith)
@@ -270,27 +270,27 @@ all_bytes bs h = All-from_recursion (λ b. b < 256) bs h
 pub wide16 : IsWide w16 (2 ^ 16)
 wide16 = record {
   block = λ n. (refl, all_bytes (to_be_bytes w16 n) (omega arith, (omega arith, tt)));
-  back = λ bs fits. be_bytes_2 bs _ fits.0 (bytes_at bs fits.1) refl;
+  back = λ bs fits. be_bytes_2 bs _ fits.0 (each_byte bs fits.1) refl;
   again = λ n lt. from_be_bytes-to_be_bytes_2 n lt;
-  below = λ bs fits. omega (arith, bytes_at bs fits.1 0, bytes_at bs fits.1 1);
+  below = λ bs fits. omega (arith, each_byte bs fits.1 0, each_byte bs fits.1 1);
 }
 
 -- numbers of 32 bits
 pub wide32 : IsWide w32 (2 ^ 32)
 wide32 = record {
   block = λ n. (refl, all_bytes (to_be_bytes w32 n) (omega arith, (omega arith, (omega arith, (omega arith, tt)))));
-  back = λ bs fits. be_bytes_4 bs _ fits.0 (bytes_at bs fits.1) refl;
+  back = λ bs fits. be_bytes_4 bs _ fits.0 (each_byte bs fits.1) refl;
   again = λ n lt. from_be_bytes-to_be_bytes_4 n lt;
-  below = λ bs fits. omega (arith, bytes_at bs fits.1 0, bytes_at bs fits.1 1, bytes_at bs fits.1 2, bytes_at bs fits.1 3);
+  below = λ bs fits. omega (arith, each_byte bs fits.1 0, each_byte bs fits.1 1, each_byte bs fits.1 2, each_byte bs fits.1 3);
 }
 
 -- numbers of 64 bits
 pub wide64 : IsWide w64 (2 ^ 64)
 wide64 = record {
   block = λ n. (refl, all_bytes (to_be_bytes w64 n) (omega arith, (omega arith, (omega arith, (omega arith, (omega arith, (omega arith, (omega arith, (omega arith, tt)))))))));
-  back = λ bs fits. be_bytes_8 bs _ fits.0 (bytes_at bs fits.1) refl;
+  back = λ bs fits. be_bytes_8 bs _ fits.0 (each_byte bs fits.1) refl;
   again = λ n lt. from_be_bytes-to_be_bytes_8 n lt;
-  below = λ bs fits. omega (arith, bytes_at bs fits.1 0, bytes_at bs fits.1 1, bytes_at bs fits.1 2, bytes_at bs fits.1 3, bytes_at bs fits.1 4, bytes_at bs fits.1 5, bytes_at bs fits.1 6, bytes_at bs fits.1 7);
+  below = λ bs fits. omega (arith, each_byte bs fits.1 0, each_byte bs fits.1 1, each_byte bs fits.1 2, each_byte bs fits.1 3, each_byte bs fits.1 4, each_byte bs fits.1 5, each_byte bs fits.1 6, each_byte bs fits.1 7);
 }
 
 module _ (w : Width) (limit : ℕ) (wide : IsWide w limit) where
@@ -319,37 +319,50 @@ payload_meets = record {
 
 -- ---- runs of bytes of one field
 
+-- so many bytes, each of which fits
+abbrev pub AreBytes : (ℕ → Type 0) → ℕ → List ℕ → Type 0
+AreBytes Fits n bs = (length bs ≡ n) × AllByRecursion Fits bs
+
 -- so many bytes, none above the limit
 abbrev pub IsRun : ℕ → ℕ → List ℕ → Type 0
-IsRun most n bs = (length bs ≡ n) × AllByRecursion (λ b. b ≤ most) bs
+IsRun most n bs = AreBytes (λ b. b ≤ most) n bs
 
-module _ (which : FieldName) (most : ℕ) (lt : most < 256) where
-  -- the first byte of a run
-  first_meets : Meets (Within 0 most) (λ b. field which b ∷ []) (field_of which (within 0 most))
-  first_meets = within_meets which 0 most (omega arith) lt
+module _ (which : FieldName) (Fits : ℕ → Type 0) (table : ℕ → Option ℕ) (is : IsTable Fits (λ b. b) table) where
+  -- the first of such bytes
+  first_meets : Meets Fits (λ b. field which b ∷ []) (field_of which table)
+  first_meets = field_meets which Fits (λ b. b) table is
 
-  -- a run that is spelled is read again
-  pub run_read : (n : ℕ) (bs : List ℕ) → IsRun most n bs → IsRead (run_at which most n) bs (map (field which) bs)
-  unfolding run_at
-  run_read zero [] fits = done_read []
-  run_read zero (b ∷ bs) fits = absurd (omega (arith, fits.0))
-  run_read (suc n) [] fits = absurd (omega (arith, fits.0))
-  run_read (suc n) (b ∷ bs) fits =
-      then_read (field_of which (within 0 most)) b (field which b ∷ []) (first_meets.complete b (omega arith, fits.1.0))
-      (λ first. run_at which most n first.1 >>= λ others. Ok (first.0 ∷ others.0, others.1)) (b ∷ bs) (map (field which) bs)
-      (ends_read (run_at which most n) bs (map (field which) bs) (run_read n bs (omega (arith, fits.0), fits.1.1)) (λ bs. b ∷ bs))
+  -- such bytes that are spelled are read again
+  bytes_read : (n : ℕ) (bs : List ℕ) → AreBytes Fits n bs → IsRead (bytes_at which table n) bs (map (field which) bs)
+  unfolding bytes_at
+  bytes_read zero [] fits = done_read []
+  bytes_read zero (b ∷ bs) fits = absurd (omega (arith, fits.0))
+  bytes_read (suc n) [] fits = absurd (omega (arith, fits.0))
+  bytes_read (suc n) (b ∷ bs) fits =
+      then_read (field_of which table) b (field which b ∷ []) (first_meets.complete b fits.1.0)
+      (λ first. bytes_at which table n first.1 >>= λ others. Ok (first.0 ∷ others.0, others.1)) (b ∷ bs) (map (field which) bs)
+      (ends_read (bytes_at which table n) bs (map (field which) bs) (bytes_read n bs (omega (arith, fits.0), fits.1.1)) (λ bs. b ∷ bs))
 
-  -- a run that is read is spelled so
-  pub run_sound : (n : ℕ) → Sound (Spells (IsRun most n) (λ bs. map (field which) bs)) (run_at which most n)
-  unfolding run_at
-  run_sound zero = done_sound (Spells (IsRun most 0) (λ bs. map (field which) bs)) [] ((refl, tt), refl)
-  run_sound (suc n) =
-      let S : List ℕ → List Cell → Type 0 = Spells (IsRun most (suc n)) (λ bs. map (field which) bs) in
-      then_sound (Within 0 most) (λ b. field which b ∷ []) (field_of which (within 0 most)) first_meets S
-      (λ first. run_at which most n first.1 >>= λ others. Ok (first.0 ∷ others.0, others.1))
-      (λ b fits. ends_sound (IsRun most n) (λ bs. map (field which) bs) (run_at which most n) (record { sound = run_sound n; complete = run_read n }) (After S (field which b ∷ [])) (λ bs. b ∷ bs)
-      (λ bs fit. ((ap suc fit.0, (fits.1, fit.1)), ap (λ (cs : List Cell). field which b ∷ cs) refl)))
+  -- such bytes that are read are spelled so
+  bytes_sound : (n : ℕ) → Sound (Spells (AreBytes Fits n) (λ bs. map (field which) bs)) (bytes_at which table n)
+  unfolding bytes_at
+  bytes_sound zero = done_sound (Spells (AreBytes Fits 0) (λ bs. map (field which) bs)) [] ((refl, tt), refl)
+  bytes_sound (suc n) =
+      let S : List ℕ → List Cell → Type 0 = Spells (AreBytes Fits (suc n)) (λ bs. map (field which) bs) in
+      then_sound Fits (λ b. field which b ∷ []) (field_of which table) first_meets S
+      (λ first. bytes_at which table n first.1 >>= λ others. Ok (first.0 ∷ others.0, others.1))
+      (λ b fits. ends_sound (AreBytes Fits n) (λ bs. map (field which) bs) (bytes_at which table n) (record { sound = bytes_sound n; complete = bytes_read n }) (After S (field which b ∷ [])) (λ bs. b ∷ bs)
+      (λ bs fit. ((ap suc fit.0, (fits, fit.1)), ap (λ (cs : List Cell). field which b ∷ cs) refl)))
 
-  -- the reader of a run meets the grammar
-  pub run_meets : (n : ℕ) → Meets (IsRun most n) (λ bs. map (field which) bs) (run_at which most n)
-  run_meets n = record { sound = run_sound n; complete = run_read n }
+  -- the reader of such bytes meets the grammar
+  pub bytes_meets : (n : ℕ) → Meets (AreBytes Fits n) (λ bs. map (field which) bs) (bytes_at which table n)
+  bytes_meets n = record { sound = bytes_sound n; complete = bytes_read n }
+
+-- the reader of a run meets the grammar
+pub run_meets : (which : FieldName) (most : ℕ) → most < 256 → (n : ℕ) → Meets (IsRun most n) (λ bs. map (field which) bs) (run_at which most n)
+run_meets which most lt n = bytes_meets which (λ b. b ≤ most) (within 0 most) (record {
+  found = λ b a e. let h = within_found 0 most b a e in (h.0.1, h.1);
+  again = λ b fits. let one : within 0 most b ≡ Some b = search (tests, rules) in one;
+  outside = search (tests, rules);
+  some = (0, omega arith);
+}) n

@@ -5,11 +5,11 @@ use Rattle.std.proofs.lemmas.List.{take-append-drop}
 use Rattle.cxl_message.specs.declared.identifiers.Bytes64.{Bytes64}
 use Rattle.cxl_codec.specs.declared.fields.FieldName.{FieldName}
 use Rattle.cxl_codec.specs.declared.faults.Fault.{Fault}
-use Rattle.cxl_codec.specs.Reading.{Read, ◌>>=◌, payload_at, run_at}
+use Rattle.cxl_codec.specs.Reading.{Read, ◌>>=◌, payload_at, bytes_at, run_at}
 
 -- so many zeros, whatever follows them
 zeros-run : (which : FieldName) (n : ℕ) (rest : List ℕ) → run_at which 0 n (replicate n 0 ++ rest) ≡ Ok (replicate n 0, rest)
-unfolding run_at
+unfolding bytes_at
 zeros-run which zero rest = refl
 zeros-run which (suc n) rest = ap (λ others. others >>= (λ o. Ok (0 ∷ o.0, o.1))) (zeros-run which n rest)
 

@@ -1,8 +1,10 @@
 pub mod Cells
 pub mod Names
 pub mod VersionOne
+pub mod Versions
 pub mod Header
 pub mod Openings
+pub mod NameRecord
 pub mod Messages
 pub mod Events
 pub mod EndRecord

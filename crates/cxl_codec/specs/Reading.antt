@@ -10,6 +10,7 @@ use Rattle.cxl_message.specs.declared.opcodes.SnpOp.{SnpOp}
 use Rattle.cxl_message.specs.declared.opcodes.Span.{Span}
 use Rattle.cxl_message.specs.Codes.{meta_code, snoop_type_code, channel_code, span_len}
 use Rattle.cxl_message.specs.Formed.{is_block_snoop}
+use Rattle.cxl_message.specs.Names.{is_name_byte}
 use Rattle.cxl_codec.specs.declared.fields.FieldName.{FieldName}
 use Rattle.cxl_codec.specs.declared.faults.Fault.{Fault}
 use Rattle.cxl_codec.specs.Kinds.{metas, snoop_types, credit_channels}
@@ -67,13 +68,21 @@ payload_at bytes = do
   block ← block_at 64 bytes
   Ok (record { 0 = block.0 }, block.1)
 
--- so many bytes of a field, none of them above the limit
-unfoldable pub run_at : FieldName → ℕ → ℕ → List ℕ → Read (List ℕ)
-run_at which most zero bytes = Ok ([], bytes)
-run_at which most (suc n) bytes = do
-  first ← field_of which (within 0 most) bytes
-  others ← run_at which most n first.1
+-- so many bytes of a field, each of them one that the table has
+unfoldable pub bytes_at : FieldName → (ℕ → Option ℕ) → ℕ → List ℕ → Read (List ℕ)
+bytes_at which table zero bytes = Ok ([], bytes)
+bytes_at which table (suc n) bytes = do
+  first ← field_of which table bytes
+  others ← bytes_at which table n first.1
   Ok (first.0 ∷ others.0, others.1)
+
+-- so many bytes of a field, none of them above the limit
+abbrev pub run_at : FieldName → ℕ → ℕ → List ℕ → Read (List ℕ)
+run_at which most n bytes = bytes_at which (within 0 most) n bytes
+
+-- the byte itself, if it may stand in a name
+abbrev pub letter : ℕ → Option ℕ
+letter b = if is_name_byte b then Some b else None
 
 -- the spans of a block, or of a single line
 abbrev pub spans_of : Bool → List Span

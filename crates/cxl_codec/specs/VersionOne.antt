@@ -1,5 +1,5 @@
 -- What version 1 of a trace has room for: tags below 65,536, and at most 64 tags in a setup. Every rule here is an own rule.
-use Rattle.std.specs.Prelude.{ℕ, Bool, true, ◌&&◌, IsTrue, Option, nat_le, nat_lt}
+use Rattle.std.specs.Prelude.{ℕ, Bool, true, ◌&&◌, Option, nat_le, nat_lt}
 use Rattle.std.specs.List.{list_all}
 use Rattle.std.specs.Option.{option_map_or}
 use Rattle.cxl_message.specs.declared.messages.Message.{Message}
@@ -8,7 +8,7 @@ use Rattle.cxl_message.specs.declared.events.Cause.{Cause}
 use Rattle.cxl_message.specs.declared.events.Event.{Event}
 use Rattle.cxl_message.specs.Events.{outs, tag_of_act}
 use Rattle.cxl_message.specs.Messages.{tag_of}
-use Rattle.cxl_message.specs.Setup.{Configuration, IsWithinLimits}
+use Rattle.cxl_message.specs.Setup.{Configuration}
 use Rattle.cxl_codec.specs.declared.version_one.TheConstants.{MOST_SHORT_TAGS}
 
 -- a tag, if there is one, that version 1 has room for
@@ -36,8 +36,3 @@ fits_version_one e = cause_fits_version_one e.cause && list_all (λ o. message_f
 -- a setup whose number of tags version 1 has room for
 abbrev pub setup_fits_version_one : Configuration → Bool
 setup_fits_version_one setup = nat_le setup.tags MOST_SHORT_TAGS
-
--- a setup that has a header of version 1
-pub record HeaderFits (setup : Configuration) : Type 0 where
-  pub limits : IsWithinLimits setup
-  pub version_one : IsTrue (setup_fits_version_one setup)

@@ -8,13 +8,13 @@ use std::fmt;
 pub enum FieldName {
     /// The four bytes that begin a trace.
     Magic,
-    /// The version, 1.
+    /// The version, 1 or 2.
     Version,
     /// The number of hosts, 1 to 16.
     Hosts,
     /// The high byte of the filter entries less 1, 0 to 15.
     Entries,
-    /// The number of tags, 2 to 64.
+    /// The number of tags, 2 to 64, or in version 2 to 1,024.
     Tags,
     /// The number of credits, 2 to 64.
     Credits,
@@ -46,6 +46,10 @@ pub enum FieldName {
     Span,
     /// A channel with credits, 1 to 6.
     Channel,
+    /// The length of a stream's name, 1 to 32.
+    NameLength,
+    /// A byte of a stream's name: a lower-case letter, a digit or `_`.
+    NameByte,
 }
 
 impl FieldName {
@@ -76,6 +80,8 @@ impl FieldName {
             FieldName::LowAddr => "LowAddr",
             FieldName::Span => "Span",
             FieldName::Channel => "Channel",
+            FieldName::NameLength => "NameLength",
+            FieldName::NameByte => "NameByte",
         }
     }
 }

@@ -7,7 +7,7 @@ ghost use Rattle.event_room.specs.Parts.{message_of};
 ghost use Rattle.cxl_codec.specs.declared.fields.FieldName.{FieldName};
 ghost use Rattle.cxl_codec.specs.Cells.{bytes_of, kind, field, number};
 ghost use Rattle.cxl_codec.specs.Messages.{message_cells, MessageInRange};
-ghost use Rattle.cxl_codec.specs.VersionOne.{message_fits_version_one};
+ghost use Rattle.cxl_codec.specs.Versions.{message_fits, tag_fits, tag_limit, tag_width};
 ghost use Rattle.cxl_codec.specs.Reading.{Gives};
 ghost use Rattle.cxl_codec.specs.ReadingEvents.{message_fields_at, message_at};
 
@@ -19,20 +19,21 @@ use crate::reading::{
     read_bitag, read_channel, read_line, read_meta, read_payload, read_snoop_type, read_span,
     read_tag, read_within, read_zeros,
 };
-use crate::writing::{put, put_payload};
+use crate::versions::Version;
+use crate::writing::{put, put_payload, put_tag};
 use cxl_message::codes::{BI_CONFLICT, CREDIT, MEM_DATA, MEM_WR};
 use cxl_message::{BiTag, Line, MAX_SPAN, Meta, ReqOp, RspOp, SnpOp, SnpType, Span, Tag};
 use event_room::{MessageHead, MessageRef};
 
 /// How many bytes a message has at most.
-pub const LONGEST_MESSAGE: usize = 73;
+pub const LONGEST_MESSAGE: usize = 75;
 
-/// Appends a message, whose Tag version 1 has room for. There is room for it.
-pub fn put_message(out: &mut Vec<u8>, message: MessageRef<'_>)
+/// Appends a message, whose Tag the version has room for. There is room for it.
+pub fn put_message(out: &mut Vec<u8>, version: Version, message: MessageRef<'_>)
     requires room { vec_len out.old + LONGEST_MESSAGE ≤ vec_capacity out.old }
-    requires version_one { IsTrue (message_fits_version_one (message_of message)) }
-    ensures items { out.new.items ≡ out.old.items ++ bytes_of (message_cells (message_of message.entry)) }
-    ensures range { MessageInRange (message_of message.entry) }
+    requires fits { IsTrue (message_fits version (message_of message)) }
+    ensures items { out.new.items ≡ out.old.items ++ bytes_of (message_cells version (message_of message.entry)) }
+    ensures range { MessageInRange version (message_of message.entry) }
     ensures len { vec_len out.new ≤ vec_len out.old + LONGEST_MESSAGE }
     ensures capacity { vec_capacity out.old ≤ vec_capacity out.new }
 {
@@ -43,78 +44,91 @@ pub fn put_message(out: &mut Vec<u8>, message: MessageRef<'_>)
             snp,
             tag,
             line,
-        } => put_request(out, op.code(), meta, snp, tag, line),
+        } => put_request(out, version, op.code(), meta, snp, tag, line),
         MessageHead::MemWr {
             meta,
             snp,
             tag,
             line,
-        } => put_write(out, meta, snp, tag, line, message.payload),
-        MessageHead::BiConflict { tag } => put_conflict(out, tag),
-        MessageHead::BiRsp { op, bitag, low } => put_response(out, op, bitag, low),
-        MessageHead::Ndr { op, tag } => put_tagged(out, op.code(), tag),
-        MessageHead::MemData { tag } => put_data(out, tag, message.payload),
+        } => put_write(out, version, meta, snp, tag, line, message.payload),
+        MessageHead::BiConflict { tag } => put_conflict(out, version, tag),
+        MessageHead::BiRsp { op, bitag, low } => put_response(out, version, op, bitag, low),
+        MessageHead::Ndr { op, tag } => put_tagged(out, version, op.code(), tag),
+        MessageHead::MemData { tag } => put_data(out, version, tag, message.payload),
         MessageHead::BiSnp {
             op,
             bitag,
             line,
             span,
-        } => put_snoop(out, op, bitag, line, span),
+        } => put_snoop(out, version, op, bitag, line, span),
         MessageHead::Credit { channel } => put(out, &[CREDIT, channel.code()]),
     }
 }
 
 /// Appends the front of a request or a write: the kind byte and the fields. There is room for it.
 #[inline(always)]
-fn put_request(out: &mut Vec<u8>, code: u8, meta: Meta, snp: SnpType, tag: Tag, line: Line)
-    requires room { vec_len out.old + 9 ≤ vec_capacity out.old }
-    requires short { tag.0 < 2 ^ 16 }
-    ensures items { out.new.items ≡ out.old.items ++ bytes_of (kind code ∷ field FieldName.Meta (code_of_meta meta) ∷ field FieldName.SnpType (code_of_snoop_type snp) ∷ number w16 tag.0 ++ number w32 line.0) }
-    ensures range { (tag.0 < 2 ^ 16) × (line.0 < 2 ^ 32) }
-    ensures len { vec_len out.new ≡ vec_len out.old + 9 }
+fn put_request(
+    out: &mut Vec<u8>,
+    version: Version,
+    code: u8,
+    meta: Meta,
+    snp: SnpType,
+    tag: Tag,
+    line: Line,
+)
+    requires room { vec_len out.old + 11 ≤ vec_capacity out.old }
+    requires fits { IsTrue (tag_fits version tag.0) }
+    ensures items { out.new.items ≡ out.old.items ++ bytes_of (kind code ∷ field FieldName.Meta (code_of_meta meta) ∷ field FieldName.SnpType (code_of_snoop_type snp) ∷ number (tag_width version) tag.0 ++ number w32 line.0) }
+    ensures range { (tag.0 < tag_limit version) × (line.0 < 2 ^ 32) }
+    ensures len { vec_len out.new ≤ vec_len out.old + 11 }
     ensures capacity { vec_capacity out.old ≤ vec_capacity out.new }
 {
-    let [t1, t0] = (tag.0 as u16).to_be_bytes();
-    let [l3, l2, l1, l0] = line.0.to_be_bytes();
-    put(
-        out,
-        &[code, meta.code(), snp.code(), t1, t0, l3, l2, l1, l0],
-    );
+    put(out, &[code, meta.code(), snp.code()]);
+    put_tag(out, version, tag);
+    put(out, &line.0.to_be_bytes());
 }
 
 /// Appends a write. There is room for it.
 #[inline(always)]
-fn put_write(out: &mut Vec<u8>, meta: Meta, snp: SnpType, tag: Tag, line: Line, bytes: &[u8; 64])
-    requires room { vec_len out.old + 73 ≤ vec_capacity out.old }
-    requires short { tag.0 < 2 ^ 16 }
-    ensures items { out.new.items ≡ out.old.items ++ bytes_of (message_cells (Message.MemWr meta snp tag line (record { 0 = bytes.now }))) }
-    ensures range { MessageInRange (Message.MemWr meta snp tag line (record { 0 = bytes.now })) }
-    ensures len { vec_len out.new ≡ vec_len out.old + 73 }
+fn put_write(
+    out: &mut Vec<u8>,
+    version: Version,
+    meta: Meta,
+    snp: SnpType,
+    tag: Tag,
+    line: Line,
+    bytes: &[u8; 64],
+)
+    requires room { vec_len out.old + 75 ≤ vec_capacity out.old }
+    requires fits { IsTrue (tag_fits version tag.0) }
+    ensures items { out.new.items ≡ out.old.items ++ bytes_of (message_cells version (Message.MemWr meta snp tag line (record { 0 = bytes.now }))) }
+    ensures range { MessageInRange version (Message.MemWr meta snp tag line (record { 0 = bytes.now })) }
+    ensures len { vec_len out.new ≤ vec_len out.old + 75 }
     ensures capacity { vec_capacity out.old ≤ vec_capacity out.new }
 {
-    put_request(out, MEM_WR, meta, snp, tag, line);
+    put_request(out, version, MEM_WR, meta, snp, tag, line);
     put_payload(out, bytes);
 }
 
 /// Appends a conflict. There is room for it.
 #[inline(always)]
-fn put_conflict(out: &mut Vec<u8>, tag: Tag)
-    requires room { vec_len out.old + 67 ≤ vec_capacity out.old }
-    requires short { tag.0 < 2 ^ 16 }
-    ensures items { out.new.items ≡ out.old.items ++ bytes_of (message_cells (Message.BiConflict tag)) }
-    ensures range { tag.0 < 2 ^ 16 }
-    ensures len { vec_len out.new ≡ vec_len out.old + 67 }
+fn put_conflict(out: &mut Vec<u8>, version: Version, tag: Tag)
+    requires room { vec_len out.old + 69 ≤ vec_capacity out.old }
+    requires fits { IsTrue (tag_fits version tag.0) }
+    ensures items { out.new.items ≡ out.old.items ++ bytes_of (message_cells version (Message.BiConflict tag)) }
+    ensures range { tag.0 < tag_limit version }
+    ensures len { vec_len out.new ≤ vec_len out.old + 69 }
     ensures capacity { vec_capacity out.old ≤ vec_capacity out.new }
 {
-    put_tagged(out, BI_CONFLICT, tag);
+    put_tagged(out, version, BI_CONFLICT, tag);
     put(out, &[0; 64]);
 }
 
 /// Appends an answer to a snoop. There is room for it.
 #[inline(always)]
-fn put_response(out: &mut Vec<u8>, op: RspOp, bitag: BiTag, low: u8)
+fn put_response(out: &mut Vec<u8>, version: Version, op: RspOp, bitag: BiTag, low: u8)
     requires { vec_len out.old + 4 ≤ vec_capacity out.old }
-    ensures items { out.new.items ≡ out.old.items ++ bytes_of (message_cells (Message.BiRsp op bitag low)) }
+    ensures items { out.new.items ≡ out.old.items ++ bytes_of (message_cells version (Message.BiRsp op bitag low)) }
     ensures range { bitag.0 < 2 ^ 16 }
     ensures len { vec_len out.new ≡ vec_len out.old + 4 }
     ensures capacity { vec_capacity out.old ≤ vec_capacity out.new }
@@ -125,37 +139,37 @@ fn put_response(out: &mut Vec<u8>, op: RspOp, bitag: BiTag, low: u8)
 
 /// Appends a kind byte and a Tag. There is room for it.
 #[inline(always)]
-fn put_tagged(out: &mut Vec<u8>, code: u8, tag: Tag)
-    requires room { vec_len out.old + 3 ≤ vec_capacity out.old }
-    requires short { tag.0 < 2 ^ 16 }
-    ensures items { out.new.items ≡ out.old.items ++ bytes_of (kind code ∷ number w16 tag.0) }
-    ensures range { tag.0 < 2 ^ 16 }
-    ensures len { vec_len out.new ≡ vec_len out.old + 3 }
+fn put_tagged(out: &mut Vec<u8>, version: Version, code: u8, tag: Tag)
+    requires room { vec_len out.old + 5 ≤ vec_capacity out.old }
+    requires fits { IsTrue (tag_fits version tag.0) }
+    ensures items { out.new.items ≡ out.old.items ++ bytes_of (kind code ∷ number (tag_width version) tag.0) }
+    ensures range { tag.0 < tag_limit version }
+    ensures len { vec_len out.new ≤ vec_len out.old + 5 }
     ensures capacity { vec_capacity out.old ≤ vec_capacity out.new }
 {
-    let [t1, t0] = (tag.0 as u16).to_be_bytes();
-    put(out, &[code, t1, t0]);
+    put(out, &[code]);
+    put_tag(out, version, tag);
 }
 
 /// Appends the bytes of a line that was read. There is room for it.
 #[inline(always)]
-fn put_data(out: &mut Vec<u8>, tag: Tag, bytes: &[u8; 64])
-    requires room { vec_len out.old + 67 ≤ vec_capacity out.old }
-    requires short { tag.0 < 2 ^ 16 }
-    ensures items { out.new.items ≡ out.old.items ++ bytes_of (message_cells (Message.MemData tag (record { 0 = bytes.now }))) }
-    ensures range { MessageInRange (Message.MemData tag (record { 0 = bytes.now })) }
-    ensures len { vec_len out.new ≡ vec_len out.old + 67 }
+fn put_data(out: &mut Vec<u8>, version: Version, tag: Tag, bytes: &[u8; 64])
+    requires room { vec_len out.old + 69 ≤ vec_capacity out.old }
+    requires fits { IsTrue (tag_fits version tag.0) }
+    ensures items { out.new.items ≡ out.old.items ++ bytes_of (message_cells version (Message.MemData tag (record { 0 = bytes.now }))) }
+    ensures range { MessageInRange version (Message.MemData tag (record { 0 = bytes.now })) }
+    ensures len { vec_len out.new ≤ vec_len out.old + 69 }
     ensures capacity { vec_capacity out.old ≤ vec_capacity out.new }
 {
-    put_tagged(out, MEM_DATA, tag);
+    put_tagged(out, version, MEM_DATA, tag);
     put_payload(out, bytes);
 }
 
 /// Appends a snoop. There is room for it.
 #[inline(always)]
-fn put_snoop(out: &mut Vec<u8>, op: SnpOp, bitag: BiTag, line: Line, span: Span)
+fn put_snoop(out: &mut Vec<u8>, version: Version, op: SnpOp, bitag: BiTag, line: Line, span: Span)
     requires { vec_len out.old + 8 ≤ vec_capacity out.old }
-    ensures items { out.new.items ≡ out.old.items ++ bytes_of (message_cells (Message.BiSnp op bitag line span)) }
+    ensures items { out.new.items ≡ out.old.items ++ bytes_of (message_cells version (Message.BiSnp op bitag line span)) }
     ensures range { (bitag.0 < 2 ^ 16) × (line.0 < 2 ^ 32) }
     ensures len { vec_len out.new ≡ vec_len out.old + 8 }
     ensures capacity { vec_capacity out.old ≤ vec_capacity out.new }
@@ -168,24 +182,28 @@ fn put_snoop(out: &mut Vec<u8>, op: SnpOp, bitag: BiTag, line: Line, span: Span)
 /// Reads a message.
 #[inline(always)]
 #[tactic(auto, unfolding(crate::specs::ReadingEvents::message_at))]
-pub fn read_message(bytes: &[u8]) -> Result<(MessageRef<'_>, &[u8]), Fault>
-    ensures { Gives (λ x. (message_of x.0, x.1.now)) result (message_at bytes.now) }
+pub fn read_message(version: Version, bytes: &[u8]) -> Result<(MessageRef<'_>, &[u8]), Fault>
+    ensures { Gives (λ x. (message_of x.0, x.1.now)) result (message_at version bytes.now) }
 {
     let (kind, rest) = read_message_kind(bytes)?;
-    read_message_fields(kind, rest)
+    read_message_fields(version, kind, rest)
 }
 
 /// Reads the fields of a message of this kind.
 #[inline(always)]
 #[tactic(auto, unfolding(crate::specs::ReadingEvents::message_fields_at))]
-fn read_message_fields(kind: MessageKind, bytes: &[u8]) -> Result<(MessageRef<'_>, &[u8]), Fault>
-    ensures { Gives (λ x. (message_of x.0, x.1.now)) result (message_fields_at kind bytes.now) }
+fn read_message_fields(
+    version: Version,
+    kind: MessageKind,
+    bytes: &[u8],
+) -> Result<(MessageRef<'_>, &[u8]), Fault>
+    ensures { Gives (λ x. (message_of x.0, x.1.now)) result (message_fields_at version kind bytes.now) }
 {
     match kind {
-        MessageKind::Req(op) => read_request(op, bytes),
-        MessageKind::MemWr => read_write(bytes),
+        MessageKind::Req(op) => read_request(version, op, bytes),
+        MessageKind::MemWr => read_write(version, bytes),
         MessageKind::BiConflict => {
-            let (tag, rest) = read_tag(bytes)?;
+            let (tag, rest) = read_tag(version, bytes)?;
             let (_, rest) = read_zeros(rest)?;
             Ok((MessageRef::plain(MessageHead::BiConflict { tag }), rest))
         }
@@ -198,10 +216,10 @@ fn read_message_fields(kind: MessageKind, bytes: &[u8]) -> Result<(MessageRef<'_
             ))
         }
         MessageKind::Ndr(op) => {
-            let (tag, rest) = read_tag(bytes)?;
+            let (tag, rest) = read_tag(version, bytes)?;
             Ok((MessageRef::plain(MessageHead::Ndr { op, tag }), rest))
         }
-        MessageKind::MemData => read_data(bytes),
+        MessageKind::MemData => read_data(version, bytes),
         MessageKind::BiSnp(op) => read_snoop(op, bytes),
         MessageKind::Credit => {
             let (channel, rest) = read_channel(bytes)?;
@@ -213,12 +231,12 @@ fn read_message_fields(kind: MessageKind, bytes: &[u8]) -> Result<(MessageRef<'_
 /// Reads the fields of a request.
 #[inline(always)]
 #[tactic(auto, unfolding(crate::specs::ReadingEvents::message_fields_at))]
-fn read_request(op: ReqOp, bytes: &[u8]) -> Result<(MessageRef<'_>, &[u8]), Fault>
-    ensures { Gives (λ x. (message_of x.0, x.1.now)) result (message_fields_at (MessageKind.Req op) bytes.now) }
+fn read_request(version: Version, op: ReqOp, bytes: &[u8]) -> Result<(MessageRef<'_>, &[u8]), Fault>
+    ensures { Gives (λ x. (message_of x.0, x.1.now)) result (message_fields_at version (MessageKind.Req op) bytes.now) }
 {
     let (meta, rest) = read_meta(bytes)?;
     let (snp, rest) = read_snoop_type(rest)?;
-    let (tag, rest) = read_tag(rest)?;
+    let (tag, rest) = read_tag(version, rest)?;
     let (line, rest) = read_line(rest)?;
     let head = MessageHead::Req {
         op,
@@ -233,12 +251,12 @@ fn read_request(op: ReqOp, bytes: &[u8]) -> Result<(MessageRef<'_>, &[u8]), Faul
 /// Reads the fields of a write.
 #[inline(always)]
 #[tactic(auto, unfolding(crate::specs::ReadingEvents::message_fields_at))]
-fn read_write(bytes: &[u8]) -> Result<(MessageRef<'_>, &[u8]), Fault>
-    ensures { Gives (λ x. (message_of x.0, x.1.now)) result (message_fields_at MessageKind.MemWr bytes.now) }
+fn read_write(version: Version, bytes: &[u8]) -> Result<(MessageRef<'_>, &[u8]), Fault>
+    ensures { Gives (λ x. (message_of x.0, x.1.now)) result (message_fields_at version MessageKind.MemWr bytes.now) }
 {
     let (meta, rest) = read_meta(bytes)?;
     let (snp, rest) = read_snoop_type(rest)?;
-    let (tag, rest) = read_tag(rest)?;
+    let (tag, rest) = read_tag(version, rest)?;
     let (line, rest) = read_line(rest)?;
     let (payload, rest) = read_payload(rest)?;
     let head = MessageHead::MemWr {
@@ -253,10 +271,10 @@ fn read_write(bytes: &[u8]) -> Result<(MessageRef<'_>, &[u8]), Fault>
 /// Reads the fields of a MemData.
 #[inline(always)]
 #[tactic(auto, unfolding(crate::specs::ReadingEvents::message_fields_at))]
-fn read_data(bytes: &[u8]) -> Result<(MessageRef<'_>, &[u8]), Fault>
-    ensures { Gives (λ x. (message_of x.0, x.1.now)) result (message_fields_at MessageKind.MemData bytes.now) }
+fn read_data(version: Version, bytes: &[u8]) -> Result<(MessageRef<'_>, &[u8]), Fault>
+    ensures { Gives (λ x. (message_of x.0, x.1.now)) result (message_fields_at version MessageKind.MemData bytes.now) }
 {
-    let (tag, rest) = read_tag(bytes)?;
+    let (tag, rest) = read_tag(version, bytes)?;
     let (payload, rest) = read_payload(rest)?;
     let head = MessageHead::MemData { tag };
     Ok((MessageRef { head, payload }, rest))
@@ -266,7 +284,7 @@ fn read_data(bytes: &[u8]) -> Result<(MessageRef<'_>, &[u8]), Fault>
 #[inline(always)]
 #[tactic(auto, unfolding(crate::specs::ReadingEvents::message_fields_at))]
 fn read_snoop(op: SnpOp, bytes: &[u8]) -> Result<(MessageRef<'_>, &[u8]), Fault>
-    ensures { Gives (λ x. (message_of x.0, x.1.now)) result (message_fields_at (MessageKind.BiSnp op) bytes.now) }
+    ensures { (version : Version) → Gives (λ x. (message_of x.0, x.1.now)) result (message_fields_at version (MessageKind.BiSnp op) bytes.now) }
 {
     let (bitag, rest) = read_bitag(bytes)?;
     let (line, rest) = read_line(rest)?;

@@ -6,9 +6,11 @@ ghost use Rattle.cxl_message.specs.Codes.{meta_code, snoop_type_code, channel_co
 ghost use Rattle.cxl_message.specs.Formed.{is_block_snoop};
 ghost use Rattle.cxl_codec.specs.Kinds.{metas, snoop_types, credit_channels};
 ghost use Rattle.cxl_codec.specs.Reading.{Gives, field_of, within, number_at, free_at, payload_at, run_at, meta_at, snoop_type_at, channel_at, spans_of, span_at};
+ghost use Rattle.cxl_codec.specs.Versions.{tag_width};
 
 use crate::faults::Fault;
 use crate::fields::FieldName;
+use crate::versions::Version;
 use cxl_message::{BiTag, Channel, Line, Meta, SnpOp, SnpType, Span, Tag};
 
 /// A byte of a field that is a number within these limits.
@@ -88,13 +90,21 @@ pub fn read_u64(bytes: &[u8]) -> Result<(u64, &[u8]), Fault>
     Ok((number, rest))
 }
 
-/// A Tag, which has 16 bits in version 1.
+/// A Tag, as wide as the version has it.
 #[inline(always)]
-pub fn read_tag(bytes: &[u8]) -> Result<(Tag, &[u8]), Fault>
-    ensures { Gives (λ x. (x.0.0, x.1.now)) result (number_at w16 bytes.now) }
+pub fn read_tag(version: Version, bytes: &[u8]) -> Result<(Tag, &[u8]), Fault>
+    ensures { Gives (λ x. (x.0.0, x.1.now)) result (number_at (tag_width version) bytes.now) }
 {
-    let (number, rest) = read_u16(bytes)?;
-    Ok((Tag(u32::from(number)), rest))
+    match version {
+        Version::One => {
+            let (number, rest) = read_u16(bytes)?;
+            Ok((Tag(u32::from(number)), rest))
+        }
+        Version::Two => {
+            let (number, rest) = read_u32(bytes)?;
+            Ok((Tag(number), rest))
+        }
+    }
 }
 
 /// A BITag.

@@ -4,6 +4,7 @@ use Rattle.std.specs.Prelude.{length, max}
 use Rattle.std.proofs.lemmas.Bool.{cases_lt}
 use Rattle.std.proofs.lemmas.List.{append-nil}
 use Rattle.std.proofs.lemmas.List.Elements.{All-append}
+use Rattle.cxl_codec.specs.declared.versions.Version.{Version}
 use Rattle.cxl_codec.specs.declared.faults.Fault.{Fault}
 use Rattle.event_scan.specs.declared.scans.Part.{Part}
 use Rattle.cxl_codec.specs.Cells.{bytes_of}
@@ -19,13 +20,13 @@ use Rattle.event_scan.proofs.ScanReads.{event_follows}
 
 -- as long as a part is to come the record is cut short
 cut_by_parts : (bytes : List ℕ) (p : Part) (ps : List Part) → scan event_parts bytes ≡ Some (p ∷ ps) → IsBytes bytes → IsCutShort EventFits event_cells bytes
-cut_by_parts bytes p ps e each = (refused EventFits event_cells event_at event_meets bytes each Fault.Short (event_follows.short bytes p ps e)).0
+cut_by_parts bytes p ps e each = (refused EventFits event_cells (event_at Version.One) (event_meets Version.One) bytes each Fault.Short (event_follows.short bytes p ps e)).0
 
 -- bytes that are cut short are of a record that the parts take whole, so parts are to come
 parts_by_cut : (bytes : List ℕ) → IsCutShort EventFits event_cells bytes → (p : Part) × (ps : List Part) × (scan event_parts bytes ≡ Some (p ∷ ps))
 parts_by_cut bytes cut =
     let record_bytes : List ℕ = bytes_of (event_cells cut.value) in
-    let takes = event_follows.taken (record_bytes ++ []) cut.value [] (read_again EventFits event_cells event_at event_meets cut.value cut.fits []) in
+    let takes = event_follows.taken (record_bytes ++ []) cut.value [] (read_again EventFits event_cells (event_at Version.One) (event_meets Version.One) cut.value cut.fits []) in
     let is : bytes ++ cut.next ∷ cut.more ≡ takes.front = sym cut.spelled ∙ sym (append-nil record_bytes) ∙ takes.whole ∙ append-nil takes.front in
     let all : scan event_parts (bytes ++ cut.next ∷ cut.more) ≡ Some [] = ap (λ (bs : List ℕ). scan event_parts bs) is ∙ takes.scanned in
     elim (known (scan event_parts bytes)) [

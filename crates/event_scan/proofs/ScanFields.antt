@@ -13,7 +13,7 @@ use Rattle.cxl_codec.specs.declared.fields.FieldName.{FieldName}
 use Rattle.cxl_codec.specs.declared.faults.Fault.{Fault}
 use Rattle.event_scan.specs.declared.scans.Part.{Part}
 use Rattle.cxl_codec.specs.Kinds.{metas, snoop_types, credit_channels}
-use Rattle.cxl_codec.specs.Reading.{field_of, within, number_at, payload_at, run_at, meta_at, snoop_type_at, channel_at, spans_of, span_at}
+use Rattle.cxl_codec.specs.Reading.{field_of, within, number_at, payload_at, bytes_at, run_at, meta_at, snoop_type_at, channel_at, spans_of, span_at}
 use Rattle.event_scan.specs.Scanning.{span_part, after_byte}
 use Rattle.event_scan.proofs.Follows.{Follows, IsTableOf, follows_done, follows_end, follows_table, follows_byte, follows_block}
 
@@ -288,7 +288,7 @@ zero_table n = record { value_at = zero_value n; parts_at = zero_parts n }
 
 -- the reader of a run of zeros
 pub zeros_follow : (which : FieldName) (n : ℕ) → Follows (Part.Zeros (suc n) ∷ []) (run_at which 0 (suc n))
-unfolding run_at zeros_left
+unfolding bytes_at zeros_left
 zeros_follow which zero = follows_table (Part.Zeros 1) (λ left. Fault.Field left which) (within 0 0) (λ a. zeros_left zero) _ (zero_table zero) (λ a. follows_done (a ∷ []))
 zeros_follow which (suc n) =
     follows_table (Part.Zeros (suc (suc n))) (λ left. Fault.Field left which) (within 0 0) (λ a. zeros_left (suc n)) _ (zero_table (suc n))

@@ -8,6 +8,7 @@ use Rattle.cxl_message.specs.declared.events.Op.{Op}
 use Rattle.cxl_message.specs.declared.events.Act.{Act}
 use Rattle.cxl_message.specs.declared.events.Cause.{Cause}
 use Rattle.cxl_message.specs.declared.events.Sends.{Sends}
+use Rattle.cxl_codec.specs.declared.versions.Version.{Version}
 use Rattle.cxl_codec.specs.declared.fields.FieldName.{FieldName}
 use Rattle.cxl_codec.specs.declared.faults.Fault.{Fault}
 use Rattle.cxl_codec.specs.declared.kinds.CauseKind.{CauseKind}
@@ -47,7 +48,7 @@ kind_table p table parts is = record {
 }
 
 -- the fields of a message
-message_fields_follow : (kind : MessageKind) → Follows (message_parts kind) (message_fields_at kind)
+message_fields_follow : (kind : MessageKind) → Follows (message_parts kind) ((message_fields_at Version.One) kind)
 unfolding message_fields_at
 message_fields_follow (MessageKind.Req op) =
     follows_then _ _ _ _ meta_follows (λ meta.
@@ -82,7 +83,7 @@ message_fields_follow (MessageKind.BiSnp op) =
 message_fields_follow MessageKind.Credit = follows_end _ _ (λ channel. Message.Credit channel) channel_follows
 
 -- a message
-message_follows : Follows (Part.Message ∷ []) message_at
+message_follows : Follows (Part.Message ∷ []) (message_at Version.One)
 unfolding message_at
 message_follows = follows_table Part.Message Fault.Kind _ message_parts _ (kind_table Part.Message _ message_parts (λ b. refl)) message_fields_follow
 
@@ -105,7 +106,7 @@ unfolding op_at
 op_follows = follows_table Part.Op Fault.Kind _ op_parts _ (kind_table Part.Op _ op_parts (λ b. refl)) op_fields_follow
 
 -- the fields of an act
-act_fields_follow : (kind : ActKind) → Follows (act_parts kind) (act_fields_at kind)
+act_fields_follow : (kind : ActKind) → Follows (act_parts kind) ((act_fields_at Version.One) kind)
 unfolding act_fields_at
 act_fields_follow (ActKind.Line kind) = follows_end _ _ _ line_follows
 act_fields_follow (ActKind.Tagged kind) =
@@ -120,12 +121,12 @@ act_fields_follow ActKind.DeviceReturn =
     follows_end _ _ (λ channel. Act.DeviceReturn host channel) channel_follows)
 
 -- an act
-act_follows : Follows (Part.Act ∷ []) act_at
+act_follows : Follows (Part.Act ∷ []) (act_at Version.One)
 unfolding act_at
 act_follows = follows_table Part.Act Fault.Kind _ act_parts _ (kind_table Part.Act _ act_parts (λ b. refl)) act_fields_follow
 
 -- the fields of a cause
-cause_fields_follow : (kind : CauseKind) → Follows (cause_parts kind) (cause_fields_at kind)
+cause_fields_follow : (kind : CauseKind) → Follows (cause_parts kind) ((cause_fields_at Version.One) kind)
 unfolding cause_fields_at
 cause_fields_follow CauseKind.Op =
     follows_then _ _ _ _ (within_follows FieldName.Stream 0 63) (λ stream.
@@ -137,21 +138,21 @@ cause_fields_follow CauseKind.Take =
 cause_fields_follow CauseKind.Act = follows_end _ _ (λ act. Cause.Act act) act_follows
 
 -- a cause
-cause_follows : Follows (Part.Cause ∷ []) cause_at
+cause_follows : Follows (Part.Cause ∷ []) (cause_at Version.One)
 unfolding cause_at
 cause_follows = follows_table Part.Cause Fault.Kind _ cause_parts _ (kind_table Part.Cause _ cause_parts (λ b. refl)) cause_fields_follow
 
 -- ---- sends and commits
 
 -- a sent message
-out_follows : Follows (Part.Within 0 15 ∷ Part.Message ∷ []) out_at
+out_follows : Follows (Part.Within 0 15 ∷ Part.Message ∷ []) (out_at Version.One)
 unfolding out_at
 out_follows =
     follows_then _ _ _ _ (within_follows FieldName.Host 0 15) (λ host.
     follows_end _ _ (λ message. record { host = host; message = message }) message_follows)
 
 -- so many sent messages
-outs_follow : (n : ℕ) → Follows (sends_parts n) (outs_at n)
+outs_follow : (n : ℕ) → Follows (sends_parts n) ((outs_at Version.One) n)
 unfolding outs_at
 outs_follow zero = follows_done Sends.Nothing
 outs_follow (suc zero) = follows_end _ _ (λ first. Sends.One first) out_follows
@@ -184,7 +185,7 @@ count_table p most parts is = record {
 }
 
 -- the messages that are sent
-sends_follow : Follows (Part.Sends ∷ []) sends_at
+sends_follow : Follows (Part.Sends ∷ []) (sends_at Version.One)
 unfolding sends_at
 sends_follow = follows_table Part.Sends (λ left. Fault.Field left FieldName.SendCount) (within 0 2) sends_parts _ (count_table Part.Sends 2 sends_parts (λ b. refl)) outs_follow
 
@@ -206,7 +207,7 @@ commit_follows = follows_table Part.Commit (λ left. Fault.Field left FieldName.
 -- ---- the whole record
 
 -- an event
-pub event_follows : Follows event_parts event_at
+pub event_follows : Follows event_parts (event_at Version.One)
 unfolding event_at
 event_follows =
     follows_then _ _ _ _ (within_follows FieldName.Agent 0 16) (λ agent.

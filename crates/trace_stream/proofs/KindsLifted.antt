@@ -1,13 +1,12 @@
 -- The answers on each kind of record, lifted to the kinds that may come at a stage.
 use Rattle.std.proofs.Common.{◌≡◌, ℕ, ◌+◌, ◌<◌, true, false, List, length, take, Result, Ok, Err, refl, arith}
 use Rattle.cxl_message.specs.Setup.{Configuration}
-use Rattle.cxl_codec.specs.VersionOne.{HeaderFits}
 use Rattle.cxl_message.specs.declared.identifiers.Line.{Line}
 use Rattle.cxl_message.specs.declared.identifiers.Bytes64.{Bytes64}
 use Rattle.cxl_message.specs.declared.events.Event.{Event}
 use Rattle.cxl_codec.specs.declared.refusals.DecodeRefusal.{DecodeRefusal}
 use Rattle.cxl_codec.specs.Cells.{bytes_of}
-use Rattle.cxl_codec.specs.Header.{header_cells}
+use Rattle.cxl_codec.specs.Header.{header_cells, HeaderFits}
 use Rattle.cxl_codec.specs.Openings.{opening_cells, OpeningFits}
 use Rattle.cxl_codec.specs.Events.{event_cells, EventFits}
 use Rattle.cxl_codec.specs.EndRecord.{end_cells, EndFits}

@@ -9,6 +9,7 @@ use Rattle.cxl_message.specs.declared.events.Cause.{Cause}
 use Rattle.cxl_message.specs.declared.events.Sends.{Sends}
 use Rattle.cxl_message.specs.declared.events.Commit.{Commit}
 use Rattle.cxl_message.specs.declared.events.Event.{Event}
+use Rattle.cxl_codec.specs.declared.versions.Version.{Version}
 use Rattle.cxl_codec.specs.Cells.{Cell, payload, free}
 use Rattle.cxl_codec.specs.Openings.{IsPayload}
 use Rattle.cxl_codec.specs.Messages.{message_cells, MessageInRange}
@@ -21,7 +22,7 @@ use Rattle.std.specs.List.{AllByRecursion}
 pub payload_length : (bytes : Bytes64) → IsPayload bytes → length (payload bytes) ≡ 64
 payload_length bytes fits = length-map bytes.0 free ∙ fits.count
 
-message_length : (m : Message) → MessageInRange m → length (message_cells m) ≤ 73
+message_length : (m : Message) → (MessageInRange Version.One) m → length ((message_cells Version.One) m) ≤ 73
 message_length (Message.Req op meta snp tag line) fits = omega arith
 message_length (Message.MemWr meta snp tag line bytes) fits = omega (arith, payload_length bytes fits.2)
 message_length (Message.BiConflict tag) fits = omega arith
@@ -36,7 +37,7 @@ op_length (Op.Load line) fits = omega arith
 op_length (Op.Word line place value) fits = omega arith
 op_length (Op.Whole line bytes) fits = omega (arith, payload_length bytes fits.1)
 
-act_length : (act : Act) → length (act_cells act) ≤ 6
+act_length : (act : Act) → length ((act_cells Version.One) act) ≤ 6
 act_length (Act.Conflict line) = omega arith
 act_length (Act.WriteBack line) = omega arith
 act_length (Act.Answer line) = omega arith
@@ -50,16 +51,16 @@ act_length (Act.Snoop host line) = omega arith
 act_length (Act.Finish line) = omega arith
 act_length (Act.DeviceReturn host channel) = omega arith
 
-cause_length : (cause : Cause) → CauseInRange cause → length (cause_cells cause) ≤ 75
+cause_length : (cause : Cause) → (CauseInRange Version.One) cause → length ((cause_cells Version.One) cause) ≤ 75
 cause_length (Cause.Op stream index op) fits = omega (arith, op_length op fits.1)
 cause_length (Cause.Take host message) fits = omega (arith, message_length message fits)
 cause_length (Cause.Act act) fits = omega (arith, act_length act)
 
-sends_length : (sends : Sends) → AllByRecursion (λ o. MessageInRange o.message) (outs sends) → length (sends_cells sends) ≤ 149
+sends_length : (sends : Sends) → AllByRecursion (λ o. (MessageInRange Version.One) o.message) (outs sends) → length ((sends_cells Version.One) sends) ≤ 149
 sends_length Sends.Nothing fits = omega arith
-sends_length (Sends.One o) fits = omega (arith, message_length o.message fits.0, ap (length {A = Cell}) (append-nil (message_cells o.message)))
+sends_length (Sends.One o) fits = omega (arith, message_length o.message fits.0, ap (length {A = Cell}) (append-nil ((message_cells Version.One) o.message)))
 sends_length (Sends.Two o p) fits =
-    omega (arith, message_length o.message fits.0, message_length p.message fits.1.0, ap (length {A = Cell}) (append-nil (message_cells p.message)), length-append (message_cells o.message) (out_cells p ++ []))
+    omega (arith, message_length o.message fits.0, message_length p.message fits.1.0, ap (length {A = Cell}) (append-nil ((message_cells Version.One) p.message)), length-append ((message_cells Version.One) o.message) ((out_cells Version.One) p ++ []))
 
 commit_length : (commit : Option Commit) → IfSome commit CommitInRange → length (commit_cells commit) ≤ 139
 commit_length None fits = omega arith
@@ -74,8 +75,8 @@ event_length e fits =
       cause_length e.cause fits.cause,
       sends_length e.sends fits.sends,
       commit_length e.commit fits.commit,
-      length-append (cause_cells e.cause ++ sends_cells e.sends) (commit_cells e.commit),
-      length-append (cause_cells e.cause) (sends_cells e.sends),
+      length-append ((cause_cells Version.One) e.cause ++ (sends_cells Version.One) e.sends) (commit_cells e.commit),
+      length-append ((cause_cells Version.One) e.cause) ((sends_cells Version.One) e.sends),
     )
 
 -- and so many bytes

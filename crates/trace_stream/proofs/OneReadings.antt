@@ -1,7 +1,6 @@
 -- At each stage bytes have one answer, and say one thing.
 use Rattle.std.proofs.Common.{◌≡◌, ℕ, ◌<◌, Bool, true, false, List, [], ◌∷◌, length, replicate, None, Result, refl, sym, ap, ◌∙◌, arith}
 use Rattle.std.proofs.lemmas.List.Elements.{All-replicate}
-use Rattle.cxl_codec.specs.VersionOne.{HeaderFits}
 use Rattle.cxl_message.specs.declared.identifiers.Line.{Line}
 use Rattle.cxl_message.specs.declared.identifiers.Bytes64.{Bytes64}
 use Rattle.cxl_message.specs.declared.events.Act.{Act}
@@ -9,7 +8,7 @@ use Rattle.cxl_message.specs.declared.events.Cause.{Cause}
 use Rattle.cxl_message.specs.declared.events.Sends.{Sends}
 use Rattle.cxl_message.specs.declared.events.Event.{Event}
 use Rattle.cxl_codec.specs.declared.refusals.DecodeRefusal.{DecodeRefusal}
-use Rattle.cxl_codec.specs.Header.{header_cells}
+use Rattle.cxl_codec.specs.Header.{header_cells, HeaderFits}
 use Rattle.cxl_codec.specs.Openings.{opening_cells, OpeningFits}
 use Rattle.cxl_codec.specs.Events.{event_cells, EventFits}
 use Rattle.cxl_codec.specs.EndRecord.{end_cells, EndFits}

@@ -4,12 +4,12 @@ use Rattle.std.specs.Prelude.{◌&&◌, not}
 use Rattle.std.specs.List.{flat_map, list_all, AllByRecursion}
 use Rattle.std.proofs.lemmas.Bool.{and_parts, and_from, eqb-true}
 use Rattle.cxl_message.specs.Setup.{Configuration}
-use Rattle.cxl_codec.specs.VersionOne.{HeaderFits}
 use Rattle.cxl_message.specs.Codes.{bytes_eq}
 use Rattle.cxl_message.specs.Opening.{ascends_from, opening_fits, zero_bytes}
 use Rattle.cxl_message.specs.declared.identifiers.Line.{Line}
 use Rattle.cxl_message.specs.declared.identifiers.Bytes64.{Bytes64}
 use Rattle.cxl_message.specs.declared.events.Event.{Event}
+use Rattle.cxl_codec.specs.Header.{HeaderFits}
 use Rattle.cxl_codec.specs.Openings.{OpeningFits}
 use Rattle.cxl_codec.specs.Events.{EventFits}
 use Rattle.cxl_codec.specs.EndRecord.{EndFits}

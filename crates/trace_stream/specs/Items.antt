@@ -6,8 +6,7 @@ use Rattle.cxl_message.specs.Opening.{zero_bytes}
 use Rattle.cxl_message.specs.declared.identifiers.Bytes64.{Bytes64}
 use Rattle.cxl_codec.specs.declared.refusals.DecodeRefusal.{DecodeRefusal}
 use Rattle.cxl_codec.specs.Cells.{Cell}
-use Rattle.cxl_codec.specs.Header.{header_cells}
-use Rattle.cxl_codec.specs.VersionOne.{HeaderFits}
+use Rattle.cxl_codec.specs.Header.{header_cells, HeaderFits}
 use Rattle.cxl_codec.specs.Openings.{opening_cells, OpeningFits}
 use Rattle.cxl_codec.specs.Events.{event_cells, EventFits}
 use Rattle.cxl_codec.specs.EndRecord.{end_cells, EndFits}

@@ -7,10 +7,10 @@ use Rattle.cxl_message.specs.Opening.{IsOpening, opening_fits}
 use Rattle.cxl_message.specs.declared.identifiers.Line.{Line}
 use Rattle.cxl_message.specs.declared.identifiers.Bytes64.{Bytes64}
 use Rattle.cxl_message.specs.declared.events.Event.{Event}
+use Rattle.cxl_codec.specs.Header.{HeaderFits}
 use Rattle.cxl_codec.specs.Openings.{OpeningFits}
 use Rattle.cxl_codec.specs.Events.{EventFits}
 use Rattle.cxl_codec.specs.Traces.{header_bytes, opening_bytes, event_bytes, trace_bytes}
-use Rattle.cxl_codec.specs.VersionOne.{HeaderFits}
 use Rattle.trace_stream.specs.Buffers.{Buffer, Puts, PutsFront, empty_buffer}
 use Rattle.trace_stream.specs.Runs.{IsReadWhole, IsTrace, trace_items}
 use Rattle.trace_stream.specs.declared.progress.Progress.{Progress}

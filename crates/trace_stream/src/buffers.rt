@@ -3,6 +3,7 @@ ghost use Rattle.std.specs.Prelude.{◌≡◌, ◌+◌, ◌*◌, ◌^◌, ◌<�
 ghost use Rattle.std.specs.List.{flat_map, AllByRecursion};
 ghost use Rattle.cxl_message.specs.Formed.{well_formed as is_well_formed};
 ghost use Rattle.cxl_message.specs.Opening.{IsOpening, opening_fits};
+ghost use Rattle.cxl_codec.specs.Header.{HeaderFits};
 ghost use Rattle.cxl_codec.specs.EndRecord.{EndFits};
 ghost use Rattle.cxl_codec.specs.Events.{EventFits};
 ghost use Rattle.cxl_codec.specs.Openings.{OpeningFits};

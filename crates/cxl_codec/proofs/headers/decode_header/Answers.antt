@@ -1,10 +1,9 @@
 -- What is read is what the grammar says.
 use Rattle.std.proofs.Common.{arith}
-use Rattle.cxl_codec.specs.VersionOne.{HeaderFits}
-use Rattle.cxl_codec.specs.Header.{header_cells}
+use Rattle.cxl_codec.specs.Header.{HeaderFits, header_cells}
 use Rattle.cxl_codec.specs.ReadingFiles.{header_at}
 use Rattle.cxl_codec.proofs.Meanings.{bytes_from, found, refused, rest_shorter}
-use Rattle.cxl_codec.proofs.FileReads.{header_meets}
+use Rattle.cxl_codec.proofs.HeaderReads.{header_meets}
 use Rattle.cxl_codec.proofs.headers.decode_header.Goals as goal
 
 pub overflow_sub-result : goal.overflow_sub-result
