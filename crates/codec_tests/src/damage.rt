@@ -2,44 +2,48 @@
 // put there in turn, and where every byte is allowed, each of them. `places` is the table of what a place allows.
 use crate::places::{Place, expected, is_allowed};
 use cxl_codec::{
-    DecodeRefusal, FieldName, decode_end, decode_event, decode_header, decode_opening, decode_room,
+    DecodeRefusal, FieldName, Version, decode_end, decode_event, decode_event_in, decode_header,
+    decode_header_in, decode_name, decode_opening, decode_room, decode_room_in,
 };
 use event_room::EventRoom;
 use std::alloc::{AllocError, Global};
 use std::process::Abort;
 use std::test::Fail;
 
-// The records, each by its decoder.
+// The records, each by its decoder: those of version 1, and below them those of either version or of version 2.
 #[derive(Clone, Copy)]
-enum Record {
+pub enum Record {
     Header,
     Opening,
     Event,
     End,
+    EitherHeader,
+    Name,
+    SecondEvent,
 }
 
 // A sample: some bytes at a time, and what stands at each of them.
-type Parts<'a> = &'a [(Place, &'a [u8])];
+pub type Parts<'a> = &'a [(Place, &'a [u8])];
 
-const CAUSE: Place = Place::CauseKind;
+pub const CAUSE: Place = Place::CauseKind;
 
 const OP: Place = Place::OpKind;
 
-const ACT: Place = Place::ActKind;
+pub const ACT: Place = Place::ActKind;
 
-const KIND: Place = Place::MessageKind;
+pub const KIND: Place = Place::MessageKind;
 
-const FREE: Place = Place::Free;
+pub const FREE: Place = Place::Free;
 
-const AGENT: Place = Place::Field(FieldName::Agent);
+pub const AGENT: Place = Place::Field(FieldName::Agent);
 
-const HOST: Place = Place::Field(FieldName::Host);
+pub const HOST: Place = Place::Field(FieldName::Host);
 
 const STREAM: Place = Place::Field(FieldName::Stream);
 
-const META: Place = Place::Field(FieldName::Meta);
+pub const META: Place = Place::Field(FieldName::Meta);
 
-const SNOOP_TYPE: Place = Place::Field(FieldName::SnpType);
+pub const SNOOP_TYPE: Place = Place::Field(FieldName::SnpType);
 
 const CHANNEL: Place = Place::Field(FieldName::Channel);
 
@@ -48,9 +52,9 @@ const SENDS: Place = Place::Field(FieldName::SendCount);
 const COMMIT: Place = Place::Field(FieldName::CommitFlag);
 
 // What follows the cause of an event that sends and commits nothing.
-const NOTHING: (Place, &[u8]) = (SENDS, b"\x00");
+pub const NOTHING: (Place, &[u8]) = (SENDS, b"\x00");
 
-const NO_COMMIT: (Place, &[u8]) = (COMMIT, b"\x00");
+pub const NO_COMMIT: (Place, &[u8]) = (COMMIT, b"\x00");
 
 // How many bytes are read at the front.
 fn length_of(record: Record, bytes: &[u8]) -> Result<usize, DecodeRefusal> {
@@ -59,6 +63,9 @@ fn length_of(record: Record, bytes: &[u8]) -> Result<usize, DecodeRefusal> {
         Record::Opening => Ok(decode_opening(bytes)?.2),
         Record::Event => both_forms(bytes),
         Record::End => Ok(decode_end(bytes)?.1),
+        Record::EitherHeader => Ok(decode_header_in(bytes)?.2),
+        Record::Name => Ok(decode_name(bytes)?.2),
+        Record::SecondEvent => both_second_forms(bytes),
     }
 }
 
@@ -66,6 +73,17 @@ fn length_of(record: Record, bytes: &[u8]) -> Result<usize, DecodeRefusal> {
 fn both_forms(bytes: &[u8]) -> Result<usize, DecodeRefusal> {
     let mut room = EventRoom::new();
     match (decode_room(bytes, &mut room), decode_event(bytes)) {
+        (Ok(length), Ok((event, same))) if length == same && room.event() == event => Ok(length),
+        (Err(refusal), Err(same)) if refusal == same => Err(refusal),
+        _ => Ok(usize::MAX),
+    }
+}
+
+// The same in version 2.
+fn both_second_forms(bytes: &[u8]) -> Result<usize, DecodeRefusal> {
+    let mut room = EventRoom::new();
+    let read = decode_room_in(Version::Two, bytes, &mut room);
+    match (read, decode_event_in(Version::Two, bytes)) {
         (Ok(length), Ok((event, same))) if length == same && room.event() == event => Ok(length),
         (Err(refusal), Err(same)) if refusal == same => Err(refusal),
         _ => Ok(usize::MAX),
@@ -83,7 +101,7 @@ fn bytes_of(alloc: Global, parts: Parts<'_>) -> Result<Vec<u8>, AllocError> {
 }
 
 // Damages a sample in every way.
-fn try_sample(
+pub fn try_sample(
     rt: &impl Abort,
     alloc: Global,
     record: Record,

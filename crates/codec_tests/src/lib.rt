@@ -11,3 +11,5 @@ mod places;
 mod records;
 #[cfg(test)]
 mod scans;
+#[cfg(test)]
+mod versions;

@@ -13,6 +13,12 @@ pub enum Place {
     Mark,
     SingleSpan,
     BlockSpan,
+    // The version, where both are read.
+    EitherVersion,
+    // The two bytes of the tags of version 2: the first, and the second behind a 0 and behind a 4.
+    HighTags,
+    FewTags,
+    MostTags,
     Free,
 }
 
@@ -27,6 +33,10 @@ pub fn is_allowed(place: Place, byte: u8) -> bool {
         Place::Mark => false,
         Place::SingleSpan => byte == 1,
         Place::BlockSpan => matches!(byte, 2 | 4),
+        Place::EitherVersion => matches!(byte, 1 | 2),
+        Place::HighTags => byte <= 4,
+        Place::FewTags => byte >= 2,
+        Place::MostTags => byte == 0,
         Place::Free => true,
     }
 }
@@ -56,6 +66,8 @@ fn is_value(which: FieldName, byte: u8) -> bool {
         FieldName::Payload => byte == 0,
         FieldName::Span => matches!(byte, 1 | 2 | 4),
         FieldName::Channel => matches!(byte, 1..=6),
+        FieldName::NameLength => matches!(byte, 1..=32),
+        FieldName::NameByte => matches!(byte, b'0'..=b'9' | b'a'..=b'z' | b'_'),
     }
 }
 
@@ -68,6 +80,8 @@ pub fn expected(place: Place, at: usize, whole: usize) -> Result<usize, DecodeRe
         }
         Place::Mark => FieldName::Agent,
         Place::SingleSpan | Place::BlockSpan => FieldName::Span,
+        Place::EitherVersion => FieldName::Version,
+        Place::HighTags | Place::FewTags | Place::MostTags => FieldName::Tags,
         Place::Field(which) => which,
     };
     Err(DecodeRefusal::Field { at, which })
