@@ -82,7 +82,7 @@ module _ (setup : Configuration) (opening : List (Line × Bytes64)) where
       let sent : whole.gone ≡ trace_bytes setup opening events =
       sym (append-nil whole.gone) ∙ sym (ap (λ (l : List ℕ). whole.gone ++ l) all) ∙ sym whole.whole ∙ trace_end events old.count begun.number in
       let trace : IsTrace (trace_bytes setup opening events) setup opening events = record {
-        fits = record { limits = begun.parts.limits; each_opening = begun.parts.each_opening; each_event = begun.parts.each_event; count = subst EndFits begun.number fits };
+        fits = record { limits = begun.parts.limits; each_name = tt; each_opening = begun.parts.each_opening; each_event = begun.parts.each_event; count = subst EndFits begun.number fits };
         ascending = begun.parts.ascending;
         lines = begun.parts.lines;
         spelled = refl;

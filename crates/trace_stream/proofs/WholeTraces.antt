@@ -153,7 +153,7 @@ from_header setup items count limits rest = record {
   opening = rest.opening;
   events = rest.events;
   trace = record {
-    fits = record { limits = limits; each_opening = rest.each_opening; each_event = rest.each_event; count = subst EndFits rest.number rest.end };
+    fits = record { limits = limits; each_name = tt; each_opening = rest.each_opening; each_event = rest.each_event; count = subst EndFits rest.number rest.end };
     ascending = record { ascending = rest.ascending; not_zero = rest.not_zero };
     lines = rest.below;
     spelled = ap (λ (l : List ℕ). header_bytes setup ++ l) rest.spelled ∙ trace_regrouped setup rest.opening rest.events count rest.number;

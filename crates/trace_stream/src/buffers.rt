@@ -8,7 +8,7 @@ ghost use Rattle.cxl_codec.specs.EndRecord.{EndFits};
 ghost use Rattle.cxl_codec.specs.Events.{EventFits};
 ghost use Rattle.cxl_codec.specs.Openings.{OpeningFits};
 ghost use Rattle.cxl_codec.specs.Traces.{end_bytes, event_bytes, header_bytes, opening_bytes};
-ghost use Rattle.cxl_codec.specs.VersionOne.{HeaderFits, fits_version_one, setup_fits_version_one};
+ghost use Rattle.cxl_codec.specs.VersionOne.{fits_version_one, setup_fits_version_one};
 ghost use Rattle.trace_stream.specs.Buffers.{Gathers, GathersFront, Keeps, empty_buffer, full, reach};
 ghost use Rattle.trace_stream.specs.Writing.{begin_bytes, begin_cost, end_cost, event_cost};
 
