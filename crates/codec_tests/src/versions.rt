@@ -1,6 +1,6 @@
 // The records of version 2: their bytes, each of them damaged, and headers of both versions.
 use crate::damage::{
-    ACT, AGENT, CAUSE, FREE, HOST, KIND, META, NOTHING, NO_COMMIT, Parts, Record, SNOOP_TYPE,
+    ACT, AGENT, CAUSE, FREE, HOST, KIND, META, NO_COMMIT, NOTHING, Parts, Record, SNOOP_TYPE,
     try_sample,
 };
 use crate::places::Place;
@@ -65,7 +65,10 @@ fn names(rt: HostRuntime) -> Result<(), Fail> {
     encode_name(0, b"cpu", &mut bytes)?;
     assert_eq!(&rt; bytes.as_slice(), b"\xf1\x00\x03cpu".as_slice());
     let (stream, name, length) = decode_name(&bytes)?;
-    assert_eq!(&rt; (stream, name.as_slice(), length), (0, b"cpu".as_slice(), 6));
+    assert_eq!(&rt;
+        (stream, name.as_slice(), length),
+        (0, b"cpu".as_slice(), 6)
+    );
     Ok(())
 }
 
@@ -95,7 +98,14 @@ fn tags_of_messages(rt: HostRuntime) -> Result<(), Fail> {
     for kind in [b"\x01".as_slice(), b"\x02", b"\x03"] {
         try_taken(&rt, alloc, &[(KIND, kind), meta, snp, tag, line])?;
     }
-    let write = [(KIND, b"\x11".as_slice()), meta, snp, tag, line, (FREE, &[9; 64])];
+    let write = [
+        (KIND, b"\x11".as_slice()),
+        meta,
+        snp,
+        tag,
+        line,
+        (FREE, &[9; 64]),
+    ];
     try_taken(&rt, alloc, &write)?;
     let zeros = (Place::Field(FieldName::Payload), [0; 64].as_slice());
     try_taken(&rt, alloc, &[(KIND, b"\x12"), tag, zeros])?;
@@ -160,7 +170,11 @@ fn headers_of_both_versions_are_read_again(rt: HostRuntime) -> Result<(), Fail> 
         (Version::Two, 1025, None),
     ];
     for (version, tags, length) in rows {
-        assert_eq!(&rt; try_setup(&rt, alloc, version, tags)?, length, "{tags} tags");
+        assert_eq!(&rt;
+            try_setup(&rt, alloc, version, tags)?,
+            length,
+            "{tags} tags"
+        );
     }
     let third = b"CXLT\x03";
     let refusal = DecodeRefusal::Field {
@@ -188,7 +202,10 @@ fn the_greatest_tag_stands_in_version_two_alone(rt: HostRuntime) -> Result<(), F
     assert!(&rt; well_formed(&event) && !Version::One.fits(&event));
     let mut bytes = Vec::new(rt.alloc());
     encode_event_in(Version::Two, &event, &mut bytes)?;
-    assert_eq!(&rt; bytes.as_slice(), b"\x10\x02\x03\x33\xff\xff\xff\xff\x00\x00".as_slice());
+    assert_eq!(&rt;
+        bytes.as_slice(),
+        b"\x10\x02\x03\x33\xff\xff\xff\xff\x00\x00".as_slice()
+    );
     assert_eq!(&rt; decode_event_in(Version::Two, &bytes)?, (event, 10));
     Ok(())
 }
