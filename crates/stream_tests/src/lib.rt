@@ -1,4 +1,5 @@
-//! Tests of traces in pieces: each cut and each fault of reading and writing, and traces longer than what a writer keeps.
+//! Tests of traces in pieces: each cut and each fault of reading and writing, traces of both versions, and traces longer
+//! than what a writer keeps.
 #![tactic(auto)]
 
 #[cfg(test)]
@@ -9,5 +10,7 @@ mod reading;
 mod samples;
 #[cfg(test)]
 mod standing;
+#[cfg(test)]
+mod versions;
 #[cfg(test)]
 mod writing;

@@ -1,6 +1,6 @@
 // Traces that are cut, and bytes that aren't traces.
 use crate::samples::*;
-use cxl_codec::FieldName;
+use cxl_codec::{FieldName, Version};
 use cxl_message::{Bytes64, Line, Setup};
 use std::alloc::{AllocError, Global};
 use std::process::Abort;
@@ -8,7 +8,7 @@ use std::test::Fail;
 use trace_stream::*;
 
 // The bytes have this fault, in whatever pieces.
-fn try_fault(
+pub fn try_fault(
     rt: &impl Abort,
     alloc: Global,
     bytes: &[u8],
@@ -33,7 +33,7 @@ fn pieces_of_any_size(rt: HostRuntime) -> Result<(), Fail> {
         let outcome = read(rt.alloc(), &bytes, &[], chunk)?;
         assert_eq!(rt; outcome.end, Ok(6));
         assert_eq!(rt; outcome.items.len(), 8);
-        assert!(rt; outcome.items.first() == Some(&Item::Header(setup)));
+        assert!(rt; outcome.items.first() == Some(&Item::Header(Version::One, setup)));
         for (item, event) in outcome.items.iter().skip(1).zip(&one_load()) {
             assert!(rt; *item == Item::Event(*event));
         }

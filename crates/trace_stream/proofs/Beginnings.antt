@@ -7,6 +7,7 @@ use Rattle.cxl_message.specs.Setup.{Configuration}
 use Rattle.cxl_message.specs.declared.identifiers.Line.{Line}
 use Rattle.cxl_message.specs.declared.identifiers.Bytes64.{Bytes64}
 use Rattle.cxl_message.specs.declared.events.Event.{Event}
+use Rattle.cxl_codec.specs.declared.versions.Version.{Version}
 use Rattle.cxl_codec.specs.Events.{EventFits}
 use Rattle.cxl_codec.specs.EndRecord.{EndFits}
 use Rattle.cxl_codec.specs.Traces.{event_bytes, end_bytes, trace_bytes}
@@ -83,6 +84,7 @@ module _ (setup : Configuration) (opening : List (Line × Bytes64)) where
       sym (append-nil whole.gone) ∙ sym (ap (λ (l : List ℕ). whole.gone ++ l) all) ∙ sym whole.whole ∙ trace_end events old.count begun.number in
       let trace : IsTrace (trace_bytes setup opening events) setup opening events = record {
         fits = record { limits = begun.parts.limits; each_name = tt; each_opening = begun.parts.each_opening; each_event = begun.parts.each_event; count = subst EndFits begun.number fits };
+        named = refl;
         ascending = begun.parts.ascending;
         lines = begun.parts.lines;
         spelled = refl;
@@ -90,7 +92,7 @@ module _ (setup : Configuration) (opening : List (Line × Bytes64)) where
       record {
         went = subst (λ (bytes : List ℕ). Appends start new.gone bytes) sent whole.went;
         trace = trace;
-        read = traces_are_read (trace_bytes setup opening events) setup opening events trace;
+        read = traces_are_read (trace_bytes setup opening events) Version.One setup [] opening events trace;
       }
 
   -- the end was to be put

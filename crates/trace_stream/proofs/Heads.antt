@@ -2,12 +2,13 @@
 use Rattle.std.proofs.Common.{◌≡◌, ℕ, suc, ◌+◌, ◌<◌, ◌≤◌, true, false, List, [], ◌∷◌, length, take, sym, subst, ◌∙◌, arith, add-one}
 use Rattle.std.proofs.lemmas.Bool.{and_parts, leb-true, eqb-true, eqb-false}
 use Rattle.cxl_message.specs.declared.events.Event.{Event}
-use Rattle.cxl_codec.specs.Events.{EventFits}
+use Rattle.cxl_codec.specs.declared.versions.Version.{Version}
+use Rattle.cxl_codec.specs.Events.{EventFitsIn}
 use Rattle.trace_stream.specs.Items.{begins_with}
 
 -- an event's agent is at most 16
-pub agent_small : (e : Event) → EventFits e → e.agent ≤ 16
-agent_small e fits =
+pub agent_small : (version : Version) (e : Event) → EventFitsIn version e → e.agent ≤ 16
+agent_small version e fits =
     let last = and_parts _ _ fits.formed in
     let third = and_parts _ _ last.0 in
     let second = and_parts _ _ third.0 in

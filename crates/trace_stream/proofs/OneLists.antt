@@ -7,15 +7,15 @@ use Rattle.trace_stream.specs.declared.items.Item.{Item}
 use Rattle.trace_stream.specs.declared.items.Reason.{Reason}
 use Rattle.trace_stream.specs.declared.items.TraceFault.{TraceFault}
 use Rattle.trace_stream.specs.declared.stages.Stage.{Stage}
-use Rattle.trace_stream.specs.Items.{item_cells, item_length, advance, record_fault, fault_at, Allows, ReadsAs, Says}
-use Rattle.trace_stream.specs.Runs.{item_bytes, items_bytes, stage_after, Follow, IsRead, Fails, HasFault}
+use Rattle.trace_stream.specs.Items.{cells_at, item_length, advance, record_fault, fault_at, Allows, ReadsAs, Says}
+use Rattle.trace_stream.specs.Runs.{bytes_from, item_bytes, items_bytes, stage_after, Follow, IsRead, Fails, HasFault}
 use Rattle.trace_stream.specs.Laws.{OneReading, OneList, OneFault}
 use Rattle.trace_stream.proofs.Extending.{StandsAt}
 
 -- an item that may come stands at the front of its bytes and others
-stands_front : (stage : Stage) (item : Item) (more : List ℕ) → Allows stage item → record_fault stage item ≡ None → StandsAt stage (item_bytes item ++ more) item
+stands_front : (stage : Stage) (item : Item) (more : List ℕ) → Allows stage item → record_fault stage item ≡ None → StandsAt stage (item_bytes stage item ++ more) item
 stands_front stage item more allowed right = record {
-  begins = record { fits = allowed; spelled = take_at (item_bytes item) more (item_length item) (length-map (item_cells item) (λ (c : Cell). c.byte)); whole = refl };
+  begins = record { fits = allowed; spelled = take_at (item_bytes stage item) more (item_length stage item) (length-map (cells_at stage item) (λ (c : Cell). c.byte)); whole = refl };
   right = right;
 }
 
@@ -26,22 +26,24 @@ told place item fault = option_map_or (λ reason. Err (fault_at place reason)) f
 -- what stands there is said
 reads_item : (stage : Stage) (place : ℕ) (bytes : List ℕ) (item : Item) → StandsAt stage bytes item → ReadsAs stage place bytes (Ok item)
 reads_item stage place bytes item o = record {
-  answer = Ok (item, item_length item);
+  answer = Ok (item, item_length stage item);
   answered = o.begins;
   comes_to = ap (told place item) (sym o.right);
 }
 
 says_item : (stage : Stage) (place : ℕ) (bytes : List ℕ) (item : Item) → StandsAt stage bytes item → Says stage place bytes (Ok item)
 says_item Stage.Start place bytes item o = reads_item Stage.Start place bytes item o
-says_item (Stage.Openings lines next) place bytes item o = reads_item (Stage.Openings lines next) place bytes item o
-says_item (Stage.Events count) place bytes item o = reads_item (Stage.Events count) place bytes item o
+says_item (Stage.Names streams lines next) place bytes item o = reads_item (Stage.Names streams lines next) place bytes item o
+says_item (Stage.Openings version lines next) place bytes item o = reads_item (Stage.Openings version lines next) place bytes item o
+says_item (Stage.Events version count) place bytes item o = reads_item (Stage.Events version count) place bytes item o
 says_item (Stage.Ended count) place bytes item o = absurd o.begins.fits
 
 -- More is no record
 more_is_none : (stage : Stage) → Allows stage Item.More → ⊥
 more_is_none Stage.Start allowed = allowed
-more_is_none (Stage.Openings lines next) allowed = allowed
-more_is_none (Stage.Events count) allowed = allowed
+more_is_none (Stage.Names streams lines next) allowed = allowed
+more_is_none (Stage.Openings version lines next) allowed = allowed
+more_is_none (Stage.Events version count) allowed = allowed
 more_is_none (Stage.Ended count) allowed = allowed
 
 -- no item stands at the front of some bytes
@@ -70,25 +72,29 @@ module _ (once : OneReading) where
       cc
 
   -- items from a stage on
-  same_items : (xs ys : List Item) (stage : Stage) (r q : List ℕ) → Follow stage xs → Follow stage ys → items_bytes xs ++ r ≡ items_bytes ys ++ q
+  same_items : (xs ys : List Item) (stage : Stage) (r q : List ℕ) → Follow stage xs → Follow stage ys → bytes_from stage xs ++ r ≡ bytes_from stage ys ++ q
       → NoItem (stage_after stage xs) r → NoItem (stage_after stage ys) q → (xs ≡ ys) × (r ≡ q)
   unfolding NoItem
   same_items [] [] stage r q fx fy e nr nq = (refl, e)
   same_items [] (y ∷ ys) stage r q fx fy e nr nq =
-      let begins : r ≡ item_bytes y ++ (items_bytes ys ++ q) = e ∙ append_assoc (item_bytes y) (items_bytes ys) q in
-      absurd (nr y (subst (λ (l : List ℕ). StandsAt stage l y) (sym begins) (stands_front stage y (items_bytes ys ++ q) fy.0 fy.1)))
+      let others : List ℕ = bytes_from (advance stage y) ys in
+      let begins : r ≡ item_bytes stage y ++ (others ++ q) = e ∙ append_assoc (item_bytes stage y) others q in
+      absurd (nr y (subst (λ (l : List ℕ). StandsAt stage l y) (sym begins) (stands_front stage y (others ++ q) fy.0 fy.1)))
   same_items (x ∷ xs) [] stage r q fx fy e nr nq =
-      let begins : q ≡ item_bytes x ++ (items_bytes xs ++ r) = sym e ∙ append_assoc (item_bytes x) (items_bytes xs) r in
-      absurd (nq x (subst (λ (l : List ℕ). StandsAt stage l x) (sym begins) (stands_front stage x (items_bytes xs ++ r) fx.0 fx.1)))
+      let others : List ℕ = bytes_from (advance stage x) xs in
+      let begins : q ≡ item_bytes stage x ++ (others ++ r) = sym e ∙ append_assoc (item_bytes stage x) others r in
+      absurd (nq x (subst (λ (l : List ℕ). StandsAt stage l x) (sym begins) (stands_front stage x (others ++ r) fx.0 fx.1)))
   same_items (x ∷ xs) (y ∷ ys) stage r q fx fy e nr nq =
-      let grouped : item_bytes x ++ (items_bytes xs ++ r) ≡ item_bytes y ++ (items_bytes ys ++ q) = sym (append_assoc (item_bytes x) (items_bytes xs) r) ∙ e ∙ append_assoc (item_bytes y) (items_bytes ys) q in
-      let here : StandsAt stage (item_bytes y ++ (items_bytes ys ++ q)) x = subst (λ (l : List ℕ). StandsAt stage l x) grouped (stands_front stage x (items_bytes xs ++ r) fx.0 fx.1) in
-      let same : x ≡ y = one_item stage (item_bytes y ++ (items_bytes ys ++ q)) x y here (stands_front stage y (items_bytes ys ++ q) fy.0 fy.1) in
-      let behind : items_bytes xs ++ r ≡ items_bytes ys ++ q =
-      same_rest (item_bytes y) (items_bytes xs ++ r) (items_bytes ys ++ q) (ap (λ (i : Item). item_bytes i ++ (items_bytes xs ++ r)) (sym same) ∙ grouped) in
+      let xb : List ℕ = bytes_from (advance stage x) xs in
+      let yb : List ℕ = bytes_from (advance stage y) ys in
+      let grouped : item_bytes stage x ++ (xb ++ r) ≡ item_bytes stage y ++ (yb ++ q) = sym (append_assoc (item_bytes stage x) xb r) ∙ e ∙ append_assoc (item_bytes stage y) yb q in
+      let here : StandsAt stage (item_bytes stage y ++ (yb ++ q)) x = subst (λ (l : List ℕ). StandsAt stage l x) grouped (stands_front stage x (xb ++ r) fx.0 fx.1) in
+      let same : x ≡ y = one_item stage (item_bytes stage y ++ (yb ++ q)) x y here (stands_front stage y (yb ++ q) fy.0 fy.1) in
+      let behind : xb ++ r ≡ yb ++ q = same_rest (item_bytes stage y) (xb ++ r) (yb ++ q) (ap (λ (i : Item). item_bytes stage i ++ (xb ++ r)) (sym same) ∙ grouped) in
+      let there : bytes_from (advance stage y) xs ++ r ≡ yb ++ q = ap (λ (i : Item). bytes_from (advance stage i) xs ++ r) (sym same) ∙ behind in
       let follow : Follow (advance stage y) xs = subst (λ (i : Item). Follow (advance stage i) xs) same fx.2 in
       let none : NoItem (stage_after (advance stage y) xs) r = subst (λ (i : Item). NoItem (stage_after (advance stage i) xs) r) same nr in
-      let others = same_items xs ys (advance stage y) r q follow fy.2 behind none nq in
+      let others = same_items xs ys (advance stage y) r q follow fy.2 there none nq in
       (both_cons x y xs ys same others.0, others.1)
 
   -- the same for whole inputs

@@ -5,6 +5,7 @@ use Rattle.std.proofs.lemmas.List.Elements.{All-append, All-take, All-from_get_o
 use Rattle.std.proofs.lemmas.List.{append-nil, take-append-le, take-append-drop, take_all, drop-drop, length-drop}
 use Rattle.std.specs.Option.{is_some}
 use Rattle.cxl_codec.specs.declared.refusals.DecodeRefusal.{DecodeRefusal}
+use Rattle.cxl_codec.specs.declared.versions.Version.{Version}
 use Rattle.cxl_codec.specs.Openings.{opening_cells, OpeningFits}
 use Rattle.cxl_codec.specs.Events.{event_cells, EventFits}
 use Rattle.cxl_codec.specs.Grammar.{IsCutShort}
@@ -18,16 +19,19 @@ use Rattle.trace_stream.specs.Items.{Says, takes_events, takes_openings}
 -- more is to come of the record
 pub cut_says : (stage : Stage) (place : ℕ) (bytes : List ℕ) → takes_events stage ≡ true → IsCutShort EventFits event_cells bytes → Says stage place bytes (Ok Item.More)
 cut_says Stage.Start place bytes takes cut = absurd cc
-cut_says (Stage.Openings lines next) place bytes takes cut = record {
+cut_says (Stage.Names streams lines next) place bytes takes cut = absurd cc
+cut_says (Stage.Openings Version.One lines next) place bytes takes cut = record {
   answer = Err DecodeRefusal.Short;
   answered = record { value = Item.Event cut.value; fits = cut.fits; next = cut.next; more = cut.more; spelled = cut.spelled };
   comes_to = refl;
 }
-cut_says (Stage.Events count) place bytes takes cut = record {
+cut_says (Stage.Openings Version.Two lines next) place bytes takes cut = absurd cc
+cut_says (Stage.Events Version.One count) place bytes takes cut = record {
   answer = Err DecodeRefusal.Short;
   answered = record { value = Item.Event cut.value; fits = cut.fits; next = cut.next; more = cut.more; spelled = cut.spelled };
   comes_to = refl;
 }
+cut_says (Stage.Events Version.Two count) place bytes takes cut = absurd cc
 cut_says (Stage.Ended count) place bytes takes cut = absurd cc
 
 -- what was scanned stays in front
@@ -78,12 +82,17 @@ piece_bytes n piece each = All-take (λ b. b < 256) n piece (All-from_get_or (λ
 -- an opening record that is cut short, where an opening may come next
 opening_says : (stage : Stage) (place : ℕ) (bytes : List ℕ) → takes_openings stage ≡ true → IsCutShort OpeningFits opening_cells bytes → Says stage place bytes (Ok Item.More)
 opening_says Stage.Start place bytes takes cut = absurd cc
-opening_says (Stage.Openings lines next) place bytes takes cut = record {
+opening_says (Stage.Names streams lines next) place bytes takes cut = record {
   answer = Err DecodeRefusal.Short;
   answered = record { value = Item.Opened cut.value.0 cut.value.1; fits = cut.fits; next = cut.next; more = cut.more; spelled = cut.spelled };
   comes_to = refl;
 }
-opening_says (Stage.Events count) place bytes takes cut = absurd cc
+opening_says (Stage.Openings version lines next) place bytes takes cut = record {
+  answer = Err DecodeRefusal.Short;
+  answered = record { value = Item.Opened cut.value.0 cut.value.1; fits = cut.fits; next = cut.next; more = cut.more; spelled = cut.spelled };
+  comes_to = refl;
+}
+opening_says (Stage.Events version count) place bytes takes cut = absurd cc
 opening_says (Stage.Ended count) place bytes takes cut = absurd cc
 
 -- an opening record waits that is cut short, whatever comes up to a number of bytes

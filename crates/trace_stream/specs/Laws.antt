@@ -4,11 +4,12 @@ use Rattle.cxl_message.specs.Setup.{Configuration}
 use Rattle.cxl_message.specs.declared.identifiers.Line.{Line}
 use Rattle.cxl_message.specs.declared.identifiers.Bytes64.{Bytes64}
 use Rattle.cxl_message.specs.declared.events.Event.{Event}
+use Rattle.cxl_codec.specs.declared.versions.Version.{Version}
 use Rattle.trace_stream.specs.declared.items.Item.{Item}
 use Rattle.trace_stream.specs.declared.items.TraceFault.{TraceFault}
 use Rattle.trace_stream.specs.declared.stages.Stage.{Stage}
 use Rattle.trace_stream.specs.Items.{Says}
-use Rattle.trace_stream.specs.Runs.{IsRead, IsReadWhole, SaysAfter, IsTrace, HasFault, trace_items}
+use Rattle.trace_stream.specs.Runs.{IsRead, IsReadWhole, SaysAfter, IsTraceIn, HasFault, trace_items_in}
 
 -- at each stage and place bytes say one thing
 abbrev pub OneReading : Type 0
@@ -26,8 +27,9 @@ OneList = (bytes : List ℕ) (xs ys : List Item) (r q : List ℕ) → IsRead byt
 
 -- a trace is read as its items, all of it, up to its end
 abbrev pub TracesAreRead : Type 0
-TracesAreRead = (bytes : List ℕ) (setup : Configuration) (opening : List (Line × Bytes64)) (events : List Event) → IsTrace bytes setup opening events
-    → IsReadWhole bytes (trace_items setup opening events) (length events)
+TracesAreRead =
+    (bytes : List ℕ) (version : Version) (setup : Configuration) (names : List (ℕ × List ℕ)) (opening : List (Line × Bytes64)) (events : List Event) → IsTraceIn bytes version setup names opening events
+    → IsReadWhole bytes (trace_items_in version setup names opening events) (length events)
 
 -- bytes have at most one fault
 abbrev pub OneFault : Type 0
@@ -36,4 +38,5 @@ OneFault = (bytes : List ℕ) (f g : TraceFault) → HasFault bytes f → HasFau
 -- a trace has none
 abbrev pub TracesHaveNoFault : Type 0
 TracesHaveNoFault =
-    (bytes : List ℕ) (setup : Configuration) (opening : List (Line × Bytes64)) (events : List Event) (fault : TraceFault) → IsTrace bytes setup opening events → HasFault bytes fault → ⊥
+    (bytes : List ℕ) (version : Version) (setup : Configuration) (names : List (ℕ × List ℕ)) (opening : List (Line × Bytes64)) (events : List Event) (fault : TraceFault)
+    → IsTraceIn bytes version setup names opening events → HasFault bytes fault → ⊥

@@ -16,7 +16,7 @@ pub record Reading : Type 0 where
 
 -- how many bytes wait at most: the longest record
 abbrev pub room : ℕ
-room = 364
+room = 370
 
 -- how many bytes were fed
 abbrev pub fed_count : Reading → ℕ
@@ -51,8 +51,8 @@ Answered reading outcome = Repeats reading.fault (Says reading.stage reading.pla
 -- the reading after that answer: an item's bytes don't wait any more
 abbrev pub after_next : Reading → Result Item TraceFault → Reading
 after_next reading (Ok item) = record {
-  place = reading.place + item_length item;
-  waiting = drop (item_length item) reading.waiting;
+  place = reading.place + item_length reading.stage item;
+  waiting = drop (item_length reading.stage item) reading.waiting;
   stage = advance reading.stage item;
   fault = reading.fault;
 }
@@ -61,8 +61,9 @@ after_next reading (Err fault) = record reading { fault = Some fault }
 -- what is answered where no byte follows and no fault was met: the number of events of a trace that ended, else that it is short
 abbrev pub end_of : Stage → ℕ → Result ℕ TraceFault
 end_of Stage.Start fed = Err (fault_at fed Reason.Short)
-end_of (Stage.Openings lines next) fed = Err (fault_at fed Reason.Short)
-end_of (Stage.Events count) fed = Err (fault_at fed Reason.Short)
+end_of (Stage.Names streams lines next) fed = Err (fault_at fed Reason.Short)
+end_of (Stage.Openings version lines next) fed = Err (fault_at fed Reason.Short)
+end_of (Stage.Events version count) fed = Err (fault_at fed Reason.Short)
 end_of (Stage.Ended count) fed = Ok count
 
 -- the fault that was met, or what is answered at the end
@@ -84,7 +85,8 @@ IsDrained reading = IfNone reading.fault (Says reading.stage reading.place readi
 
 -- an answer that gives an item
 abbrev pub IsGiven : Result Item TraceFault → Type 0
-IsGiven (Ok (Item.Header setup)) = Unit {0}
+IsGiven (Ok (Item.Header version setup)) = Unit {0}
+IsGiven (Ok (Item.Name stream name)) = Unit {0}
 IsGiven (Ok (Item.Opened line bytes)) = Unit {0}
 IsGiven (Ok (Item.Event e)) = Unit {0}
 IsGiven (Ok (Item.End count)) = Unit {0}
@@ -93,7 +95,8 @@ IsGiven (Err fault) = ⊥
 
 -- an answer after which nothing more is given of the bytes that were fed
 abbrev pub IsPause : Result Item TraceFault → Type 0
-IsPause (Ok (Item.Header setup)) = ⊥
+IsPause (Ok (Item.Header version setup)) = ⊥
+IsPause (Ok (Item.Name stream name)) = ⊥
 IsPause (Ok (Item.Opened line bytes)) = ⊥
 IsPause (Ok (Item.Event e)) = ⊥
 IsPause (Ok (Item.End count)) = ⊥

@@ -1,31 +1,37 @@
 -- What whole inputs are read as. Every rule here is an own rule.
 use Rattle.std.specs.Prelude.{◌≡◌, ◌⊎◌, ℕ, ◌+◌, List, [], ◌∷◌, ◌++◌, length, map, IsTrue, None, IfSome, Result, Ok, Err}
-use Rattle.std.specs.List.{flat_map}
 use Rattle.cxl_message.specs.Setup.{Configuration}
 use Rattle.cxl_message.specs.Opening.{IsOpening, opening_fits}
 use Rattle.cxl_message.specs.declared.identifiers.Line.{Line}
 use Rattle.cxl_message.specs.declared.identifiers.Bytes64.{Bytes64}
 use Rattle.cxl_message.specs.declared.events.Event.{Event}
 use Rattle.cxl_codec.specs.Cells.{bytes_of}
-use Rattle.cxl_codec.specs.Traces.{trace_bytes, TraceFits}
+use Rattle.cxl_message.specs.Names.{names_ascend_from, names_fit}
+use Rattle.cxl_codec.specs.declared.versions.Version.{Version}
+use Rattle.cxl_codec.specs.Traces.{TraceFitsIn, trace_bytes_in}
 use Rattle.trace_stream.specs.declared.items.Item.{Item}
 use Rattle.trace_stream.specs.declared.items.TraceFault.{TraceFault}
 use Rattle.trace_stream.specs.declared.stages.Stage.{Stage}
-use Rattle.trace_stream.specs.Items.{item_cells, advance, record_fault, Allows, Says}
+use Rattle.trace_stream.specs.Items.{advance, cells_at, record_fault, Allows, Says}
 use Rattle.trace_stream.specs.Readings.{Reading, end_of}
 
--- the bytes of an item
-abbrev pub item_bytes : Item → List ℕ
-item_bytes item = bytes_of (item_cells item)
-
--- the bytes of some items, one after the other
-abbrev pub items_bytes : List Item → List ℕ
-items_bytes items = flat_map item_bytes items
+-- the bytes of an item that comes at a stage
+abbrev pub item_bytes : Stage → Item → List ℕ
+item_bytes stage item = bytes_of (cells_at stage item)
 
 -- the stage after some items
 abbrev pub stage_after : Stage → List Item → Stage
 stage_after stage [] = stage
 stage_after stage (item ∷ items) = stage_after (advance stage item) items
+
+-- the bytes of some items from a stage on, one after the other
+abbrev pub bytes_from : Stage → List Item → List ℕ
+bytes_from stage [] = []
+bytes_from stage (item ∷ items) = item_bytes stage item ++ bytes_from (advance stage item) items
+
+-- the bytes of some items from the first byte on
+abbrev pub items_bytes : List Item → List ℕ
+items_bytes items = bytes_from Stage.Start items
 
 -- each of the items is allowed and right where it stands
 abbrev pub Follow : Stage → List Item → Type 0
@@ -50,23 +56,43 @@ pub record HasRead (bytes : List ℕ) (items : List Item) (reading : Reading) : 
 
 -- the items after an answer
 abbrev pub items_after : List Item → Result Item TraceFault → List Item
-items_after items (Ok (Item.Header setup)) = items ++ Item.Header setup ∷ []
+items_after items (Ok (Item.Header version setup)) = items ++ Item.Header version setup ∷ []
+items_after items (Ok (Item.Name stream name)) = items ++ Item.Name stream name ∷ []
 items_after items (Ok (Item.Opened line bytes)) = items ++ Item.Opened line bytes ∷ []
 items_after items (Ok (Item.Event e)) = items ++ Item.Event e ∷ []
 items_after items (Ok (Item.End count)) = items ++ Item.End count ∷ []
 items_after items (Ok Item.More) = items
 items_after items (Err fault) = items
 
--- the bytes are the trace of a setup, an opening and events
-pub record IsTrace (bytes : List ℕ) (setup : Configuration) (opening : List (Line × Bytes64)) (events : List Event) : Type 0 where
-  pub fits : TraceFits setup opening events
+-- the names of a trace of a version: none in version 1, and else of its streams, in order
+abbrev pub NamesFit : Version → ℕ → List (ℕ × List ℕ) → Type 0
+NamesFit Version.One streams names = names ≡ []
+NamesFit Version.Two streams names = IsTrue (names_ascend_from 0 names) × IsTrue (names_fit streams names)
+
+-- the bytes are the trace of a version, a setup, names, an opening and events
+pub record IsTraceIn (bytes : List ℕ) (version : Version) (setup : Configuration) (names : List (ℕ × List ℕ)) (opening : List (Line × Bytes64)) (events : List Event) : Type 0 where
+  pub fits : TraceFitsIn version setup names opening events
+  pub named : NamesFit version (length setup.streams) names
   pub ascending : IsOpening opening
   pub lines : IsTrue (opening_fits setup.lines opening)
-  pub spelled : bytes ≡ trace_bytes setup opening events
+  pub spelled : bytes ≡ trace_bytes_in version setup names opening events
+
+-- the same in version 1
+abbrev pub IsTrace : List ℕ → Configuration → List (Line × Bytes64) → List Event → Type 0
+IsTrace bytes setup opening events = IsTraceIn bytes Version.One setup [] opening events
+
+-- the item of a name
+abbrev pub name_item : ℕ × List ℕ → Item
+name_item named = Item.Name named.0 (record { items = named.1 })
 
 -- the items of a trace
+abbrev pub trace_items_in : Version → Configuration → List (ℕ × List ℕ) → List (Line × Bytes64) → List Event → List Item
+trace_items_in version setup names opening events =
+    Item.Header version setup ∷ (map name_item names ++ (map (λ pair. Item.Opened pair.0 pair.1) opening ++ (map Item.Event events ++ Item.End (length events) ∷ [])))
+
+-- the same in version 1
 abbrev pub trace_items : Configuration → List (Line × Bytes64) → List Event → List Item
-trace_items setup opening events = Item.Header setup ∷ (map (λ pair. Item.Opened pair.0 pair.1) opening ++ (map Item.Event events ++ Item.End (length events) ∷ []))
+trace_items setup opening events = trace_items_in Version.One setup [] opening events
 
 -- the bytes are read as these items, all of them, and with them a trace of so many events has ended
 pub record IsReadWhole (bytes : List ℕ) (items : List Item) (count : ℕ) : Type 0 where
@@ -75,11 +101,13 @@ pub record IsReadWhole (bytes : List ℕ) (items : List Item) (count : ℕ) : Ty
 
 -- the bytes are a trace of so many events, and these are its items
 pub record IsTraceOf (bytes : List ℕ) (items : List Item) (count : ℕ) : Type 0 where
+  pub version : Version
   pub setup : Configuration
+  pub names : List (ℕ × List ℕ)
   pub opening : List (Line × Bytes64)
   pub events : List Event
-  pub trace : IsTrace bytes setup opening events
-  pub same : items ≡ trace_items setup opening events
+  pub trace : IsTraceIn bytes version setup names opening events
+  pub same : items ≡ trace_items_in version setup names opening events
   pub number : count ≡ length events
 
 -- the fault that the bytes behind some items have where nothing follows them: the one that they say, or that the trace is short

@@ -1,14 +1,22 @@
 // What a trace is read as: its items, and why it isn't one.
-use cxl_codec::FieldName;
+use arrayvec::ArrayVec;
+use cxl_codec::{FieldName, Version};
 use cxl_message::{Bytes64, Event, Line, Setup};
 use std::fmt;
 use thiserror::Error;
 
 /// What comes next in a trace (own rule).
-#[derive(Clone, Copy, PartialEq, Eq, Debug)]
+#[derive(PartialEq, Eq, Debug, Drop)]
 pub enum Item {
-    /// The header.
-    Header(Setup),
+    /// The header: the version of the trace, and its setup.
+    Header(Version, Setup),
+    /// A name record, in version 2 alone.
+    Name {
+        /// The stream.
+        stream: u8,
+        /// Its name: 1 to 32 lower-case letters, digits or `_`.
+        name: ArrayVec<u8, 32>,
+    },
     /// An opening record: what a line holds at first.
     Opened {
         /// The line.
@@ -30,8 +38,10 @@ pub enum Item {
 /// An item of which all but a count of events stands in a `Room` (own rule).
 #[derive(Clone, Copy, PartialEq, Eq, Debug)]
 pub enum Found {
-    /// The header, whose setup was written to the room.
+    /// The header, whose version and setup were written to the room.
     Header,
+    /// A name record, whose stream and name were written to the room.
+    Name,
     /// An opening record, whose line and bytes were written to the room.
     Opened,
     /// An event, which was written to the room.
@@ -54,6 +64,8 @@ pub enum Reason {
     Kind,
     /// No record has this byte of the field here.
     Field(FieldName),
+    /// A stream that doesn't exist or isn't greater than the one before is named.
+    Name,
     /// A line that doesn't exist, isn't greater than the one before or is all zeros is opened.
     Opening,
     /// The end record has another number of events.
@@ -81,6 +93,7 @@ impl fmt::Display for Reason {
                 f.write_str("field ")?;
                 f.write_str(which.name())
             }
+            Reason::Name => f.write_str("name"),
             Reason::Opening => f.write_str("opening"),
             Reason::Count => f.write_str("count"),
             Reason::Trailing => f.write_str("trailing"),

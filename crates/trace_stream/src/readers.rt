@@ -10,11 +10,12 @@ use crate::records::read_at;
 use crate::rooms::Room;
 use crate::stages::{Stage, advanced, takes_events, takes_openings};
 use crate::waiting::Waiting;
+use arrayvec::ArrayVec;
 use event_scan::opening_cut_below;
 use std::alloc::{AllocError, Global};
 use std::marker::Model;
 
-/// A reader of a trace that comes in any pieces. It keeps at most 364 bytes, in memory that it takes at once (own rule).
+/// A reader of a trace of either version that comes in any pieces. It keeps at most 370 bytes, in memory that it takes at once (own rule).
 ///
 /// A contract sees the bytes that wait, the place of the first of them, what was read before it, and the fault that was
 /// met.
@@ -38,11 +39,11 @@ impl Model for TraceReader {
 
     ghost view = { λ r. record { place = r.place; waiting = r.waiting; stage = r.stage; fault = r.fault } };
 
-    ghost invariant = { λ r. (length r.waiting ≤ 364) × (r.place + length r.waiting < 2 ^ 63) × (event_count r.stage ≤ r.place) × IsQuiet (record { place = r.place; waiting = r.waiting; stage = r.stage; fault = r.fault }) r.quiet };
+    ghost invariant = { λ r. (length r.waiting ≤ 370) × (r.place + length r.waiting < 2 ^ 63) × (event_count r.stage ≤ r.place) × IsQuiet (record { place = r.place; waiting = r.waiting; stage = r.stage; fault = r.fault }) r.quiet };
 }
 
 impl TraceReader {
-    /// A reader that was fed nothing. It takes memory for 364 bytes, and `Err` is want of it; no other call takes
+    /// A reader that was fed nothing. It takes memory for 370 bytes, and `Err` is want of it; no other call takes
     /// memory.
     pub fn new(alloc: Global) -> Result<TraceReader, AllocError>
         ensures new { IfOk result (λ reader. reader ≡ record { place = 0; waiting = []; stage = Stage.Start; fault = None }) }
@@ -59,7 +60,7 @@ impl TraceReader {
     }
 
     /// Takes as many bytes of the piece as there is room for, and answers how many: 0 exactly where the piece is empty
-    /// or 364 bytes wait.
+    /// or 370 bytes wait.
     pub fn feed(&mut self, piece: &[u8]) -> usize
         requires { fed_count self.old + length piece.now < 2 ^ 63 }
         ensures count { result ≡ taken_count self.old piece.now }
@@ -293,7 +294,11 @@ fn item_from(found: Found, room: &Room) -> Item
     ensures { result ≡ item_of room.now found }
 {
     match found {
-        Found::Header => Item::Header(room.setup),
+        Found::Header => Item::Header(room.version, room.setup),
+        Found::Name => Item::Name {
+            stream: room.stream,
+            name: name_from(&room.name),
+        },
         Found::Opened => Item::Opened {
             line: room.line,
             bytes: room.bytes,
@@ -302,4 +307,13 @@ fn item_from(found: Found, room: &Room) -> Item
         Found::End { count } => Item::End { count },
         Found::More => Item::More,
     }
+}
+
+/// A name of its own.
+fn name_from(name: &ArrayVec<u8, 32>) -> ArrayVec<u8, 32>
+    ensures { result ≡ name.now }
+{
+    let mut own = ArrayVec::new();
+    let _fits = own.try_extend_from_slice(name);
+    own
 }

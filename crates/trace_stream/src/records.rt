@@ -1,21 +1,26 @@
 // The record at the front of some bytes, of the kinds that may come there.
 ghost use Rattle.std.specs.Prelude.{◌≡◌, true, false, None, ◌+◌, ◌^◌, ◌<◌, ◌≤◌, length, IfOk, OnErr};
 ghost use Rattle.cxl_codec.specs.Grammar.{Answers};
+ghost use Rattle.cxl_codec.specs.declared.versions.Version.{Version};
 ghost use Rattle.trace_stream.specs.declared.rooms.Room.{Room};
-ghost use Rattle.trace_stream.specs.Items.{Allows, IsBelow, IsFirst, IsItem, IsLater, IsNext, IsOpen, ReadsAs, Says, item_cells, item_of, item_length, answer_of, begins_with, found_of, record_fault, outcome_with};
+ghost use Rattle.trace_stream.specs.Items.{Allows, IsBelow, IsFirst, IsItem, IsLater, IsNamed, IsNext, IsOpen, ReadsAs, Says, cells_at, item_cells, item_of, item_length, answer_of, begins_with, found_of, record_fault, outcome_with};
 
 use crate::items::{Found, Reason, TraceFault};
 use crate::rooms::Room;
 use crate::stages::{Stage, refused_whole};
-use cxl_codec::{DecodeRefusal, decode_end, decode_header, decode_opening, decode_room};
+use cxl_codec::{
+    DecodeRefusal, Version, decode_end, decode_header_in, decode_name, decode_opening,
+    decode_room_in,
+};
 
 /// Reads a header.
 #[inline(never)]
 fn first_record(bytes: &[u8], room: &mut Room) -> Result<(Found, usize), DecodeRefusal>
-    ensures { Answers IsFirst item_cells bytes.now (answer_of room.new result) }
+    ensures { (version : Version) → Answers IsFirst (item_cells version) bytes.now (answer_of room.new result) }
 {
-    match decode_header(bytes) {
-        Ok((setup, length)) => {
+    match decode_header_in(bytes) {
+        Ok((version, setup, length)) => {
+            room.version = version;
             room.setup = setup;
             Ok((Found::Header, length))
         }
@@ -23,15 +28,47 @@ fn first_record(bytes: &[u8], room: &mut Room) -> Result<(Found, usize), DecodeR
     }
 }
 
+/// Reads a name, an opening, an event or an end record of version 2.
+#[inline(always)]
+fn named_record(bytes: &[u8], room: &mut Room) -> Result<(Found, usize), DecodeRefusal>
+    ensures { Answers IsNamed (item_cells Version.Two) bytes.now (answer_of room.new result) }
+{
+    if begins(bytes, 0xf1) {
+        name_record(bytes, room)
+    } else {
+        next_record(Version::Two, bytes, room)
+    }
+}
+
+/// Reads a name record at bytes that begin as one.
+#[inline(never)]
+fn name_record(bytes: &[u8], room: &mut Room) -> Result<(Found, usize), DecodeRefusal>
+    requires { begins_with bytes.now 0xf1 ≡ true }
+    ensures { Answers IsNamed (item_cells Version.Two) bytes.now (answer_of room.new result) }
+{
+    match decode_name(bytes) {
+        Ok((stream, name, length)) => {
+            room.stream = stream;
+            room.name = name;
+            Ok((Found::Name, length))
+        }
+        Err(refusal) => Err(refusal),
+    }
+}
+
 /// Reads an opening, an event or an end record.
 #[inline(always)]
-fn next_record(bytes: &[u8], room: &mut Room) -> Result<(Found, usize), DecodeRefusal>
-    ensures { Answers IsNext item_cells bytes.now (answer_of room.new result) }
+fn next_record(
+    version: Version,
+    bytes: &[u8],
+    room: &mut Room,
+) -> Result<(Found, usize), DecodeRefusal>
+    ensures { Answers (IsNext version) (item_cells version) bytes.now (answer_of room.new result) }
 {
     if begins(bytes, 0xf0) {
         opening_record(bytes, room)
     } else {
-        later_record(bytes, room)
+        later_record(version, bytes, room)
     }
 }
 
@@ -39,7 +76,7 @@ fn next_record(bytes: &[u8], room: &mut Room) -> Result<(Found, usize), DecodeRe
 #[inline(never)]
 fn opening_record(bytes: &[u8], room: &mut Room) -> Result<(Found, usize), DecodeRefusal>
     requires { begins_with bytes.now 0xf0 ≡ true }
-    ensures { Answers IsNext item_cells bytes.now (answer_of room.new result) }
+    ensures { (version : Version) → Answers (IsNext version) (item_cells version) bytes.now (answer_of room.new result) }
 {
     match decode_opening(bytes) {
         Ok((line, held, length)) => {
@@ -53,20 +90,24 @@ fn opening_record(bytes: &[u8], room: &mut Room) -> Result<(Found, usize), Decod
 
 /// Reads an event or an end record.
 #[inline(always)]
-fn later_record(bytes: &[u8], room: &mut Room) -> Result<(Found, usize), DecodeRefusal>
-    ensures { Answers IsLater item_cells bytes.now (answer_of room.new result) }
+fn later_record(
+    version: Version,
+    bytes: &[u8],
+    room: &mut Room,
+) -> Result<(Found, usize), DecodeRefusal>
+    ensures { Answers (IsLater version) (item_cells version) bytes.now (answer_of room.new result) }
 {
     if begins(bytes, 0xff) {
         end_record(bytes)
     } else {
-        event_record(bytes, room)
+        event_record(version, bytes, room)
     }
 }
 
 /// Reads an end record at bytes that begin as one.
 fn end_record(bytes: &[u8]) -> Result<(Found, usize), DecodeRefusal>
     requires { begins_with bytes.now 0xff ≡ true }
-    ensures { (room : Room) → Answers IsLater item_cells bytes.now (answer_of room result) }
+    ensures { (version : Version) (room : Room) → Answers (IsLater version) (item_cells version) bytes.now (answer_of room result) }
 {
     match decode_end(bytes) {
         Ok((count, length)) => Ok((Found::End { count }, length)),
@@ -76,11 +117,15 @@ fn end_record(bytes: &[u8]) -> Result<(Found, usize), DecodeRefusal>
 
 /// Reads an event record at bytes that don't begin as an end record.
 #[inline(always)]
-fn event_record(bytes: &[u8], room: &mut Room) -> Result<(Found, usize), DecodeRefusal>
+fn event_record(
+    version: Version,
+    bytes: &[u8],
+    room: &mut Room,
+) -> Result<(Found, usize), DecodeRefusal>
     requires { begins_with bytes.now 0xff ≡ false }
-    ensures { Answers IsLater item_cells bytes.now (answer_of room.new result) }
+    ensures { Answers (IsLater version) (item_cells version) bytes.now (answer_of room.new result) }
 {
-    match decode_room(bytes, &mut room.event) {
+    match decode_room_in(version, bytes, &mut room.event) {
         Ok(length) => Ok((Found::Event, length)),
         Err(refusal) => Err(refusal),
     }
@@ -101,12 +146,13 @@ fn begins(bytes: &[u8], byte: u8) -> bool
 #[inline(always)]
 fn record_at(stage: Stage, bytes: &[u8], room: &mut Room) -> Result<(Found, usize), DecodeRefusal>
     requires { IsOpen stage }
-    ensures { Answers (Allows stage) item_cells bytes.now (answer_of room.new result) }
+    ensures { Answers (Allows stage) (cells_at stage) bytes.now (answer_of room.new result) }
 {
     match stage {
         Stage::Start => first_record(bytes, room),
-        Stage::Openings { .. } => next_record(bytes, room),
-        Stage::Events { .. } => later_record(bytes, room),
+        Stage::Names { .. } => named_record(bytes, room),
+        Stage::Openings { version, .. } => next_record(version, bytes, room),
+        Stage::Events { version, .. } => later_record(version, bytes, room),
         Stage::Ended { .. } => unreachable!("no record is read behind the end"),
     }
 }
@@ -122,7 +168,7 @@ fn outcome_at(
     requires open { IsOpen stage }
     requires place { place + length bytes.now < 2 ^ 63 }
     ensures says { ReadsAs stage place bytes.now (outcome_with room.new (found_of result)) }
-    ensures length { IfOk result (λ found. found.1 ≡ item_length (item_of room.new found.0)) }
+    ensures length { IfOk result (λ found. found.1 ≡ item_length stage (item_of room.new found.0)) }
     ensures within { IfOk result (λ found. found.1 ≤ length bytes.now) }
     ensures some { IfOk result (λ found. IsItem found.0 → 0 < found.1) }
     ensures below { IfOk result (λ found. IsBelow room.new found.0) }
@@ -154,7 +200,7 @@ pub fn read_at(
 ) -> Result<(Found, usize), TraceFault>
     requires { place + length bytes.now < 2 ^ 63 }
     ensures says { Says stage place bytes.now (outcome_with room.new (found_of result)) }
-    ensures length { IfOk result (λ found. found.1 ≡ item_length (item_of room.new found.0)) }
+    ensures length { IfOk result (λ found. found.1 ≡ item_length stage (item_of room.new found.0)) }
     ensures within { IfOk result (λ found. found.1 ≤ length bytes.now) }
     ensures some { IfOk result (λ found. IsItem found.0 → 0 < found.1) }
     ensures below { IfOk result (λ found. IsBelow room.new found.0) }

@@ -1,4 +1,6 @@
 // Where a reader writes what it reads.
+use arrayvec::ArrayVec;
+use cxl_codec::Version;
 use cxl_message::{Bytes64, Line, Setup};
 use event_room::EventRoom;
 
@@ -6,8 +8,14 @@ use event_room::EventRoom;
 /// rule).
 #[derive(Drop)]
 pub struct Room {
+    /// The version of the last header.
+    pub version: Version,
     /// The setup of the last header.
     pub setup: Setup,
+    /// The stream of the last name record.
+    pub stream: u8,
+    /// The name of that stream.
+    pub name: ArrayVec<u8, 32>,
     /// The line of the last opening record.
     pub line: Line,
     /// What that line holds at first.
@@ -17,11 +25,14 @@ pub struct Room {
 }
 
 impl Room {
-    /// A room to be written over: a setup of the least numbers, line 0 with all bytes zero, and an event that sends
-    /// nothing.
+    /// A room to be written over: version 1, a setup of the least numbers, stream 0 with no name, line 0 with all bytes
+    /// zero, and an event that sends nothing.
     pub fn new() -> Room {
         Room {
+            version: Version::One,
             setup: least_setup(),
+            stream: 0,
+            name: ArrayVec::new(),
             line: Line(0),
             bytes: Bytes64([0; 64]),
             event: EventRoom::new(),

@@ -8,12 +8,12 @@ use std::alloc::{AllocError, Global};
 use std::marker::Model;
 
 /// How many bytes the longest record has.
-const ROOM: usize = 364;
+const ROOM: usize = 370;
 
 /// How many bytes that came since are scanned one by one, at most.
 const FEW: usize = 16;
 
-/// The bytes that wait, at most 364, in memory that is taken at once, and what the first of them leave to come where
+/// The bytes that wait, at most 370, in memory that is taken at once, and what the first of them leave to come where
 /// they are those of an event record.
 ///
 /// A contract sees the bytes.
@@ -35,11 +35,11 @@ impl Model for Waiting {
 
     ghost view = { λ w. drop w.start w.bytes.items };
 
-    ghost invariant = { λ w. (w.start ≤ vec_len w.bytes) × (vec_len w.bytes ≤ 364) × (364 ≤ vec_capacity w.bytes) × (w.scanned ≤ vec_len w.bytes - w.start) × IsBehind (take w.scanned (drop w.start w.bytes.items)) w.scan };
+    ghost invariant = { λ w. (w.start ≤ vec_len w.bytes) × (vec_len w.bytes ≤ 370) × (370 ≤ vec_capacity w.bytes) × (w.scanned ≤ vec_len w.bytes - w.start) × IsBehind (take w.scanned (drop w.start w.bytes.items)) w.scan };
 }
 
 impl Waiting {
-    /// No byte waits, with memory for 364; the error is want of it.
+    /// No byte waits, with memory for 370; the error is want of it.
     pub fn new(alloc: Global) -> Result<Waiting, AllocError>
         ensures { IfOk result (λ waiting. waiting ≡ []) }
     {
@@ -56,7 +56,7 @@ impl Waiting {
     #[inline(always)]
     pub fn len(&self) -> usize
         ensures value { result ≡ length self.now }
-        ensures fits { result ≤ 364 }
+        ensures fits { result ≤ 370 }
     {
         self.bytes.len() - self.start
     }
@@ -72,9 +72,9 @@ impl Waiting {
     /// Takes as many bytes of the piece as there is room for, and answers how many.
     #[inline(always)]
     pub fn feed(&mut self, piece: &[u8]) -> usize
-        ensures count { result ≡ min (length piece.now) (364 - length self.old) }
+        ensures count { result ≡ min (length piece.now) (370 - length self.old) }
         ensures after { self.new ≡ self.old ++ take result piece.now }
-        ensures fits { length self.new ≤ 364 }
+        ensures fits { length self.new ≤ 370 }
     {
         if piece.len() == 1 && self.bytes.len() < ROOM {
             put_one(&mut self.bytes, piece[0]);
@@ -86,9 +86,9 @@ impl Waiting {
     /// Takes as many bytes of the piece as there is room for, and answers how many.
     #[inline(never)]
     fn feed_piece(&mut self, piece: &[u8]) -> usize
-        ensures count { result ≡ min (length piece.now) (364 - length self.old) }
+        ensures count { result ≡ min (length piece.now) (370 - length self.old) }
         ensures after { self.new ≡ self.old ++ take result piece.now }
-        ensures fits { length self.new ≤ 364 }
+        ensures fits { length self.new ≤ 370 }
     {
         let count = piece.len().min(ROOM - self.len());
         if ROOM - self.bytes.len() < count {

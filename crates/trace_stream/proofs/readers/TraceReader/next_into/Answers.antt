@@ -20,7 +20,7 @@ returns-clause-fewer c given =
 pub returns-clause-room_left : goal.returns-clause-room_left
 returns-clause-room_left c more =
     let outcome = outcome_with c.step.new.room c.step.result in
-    subst (λ (reading : Reading). length reading.waiting < 364) (sym c.step.ensures.after) (room_left c.args.self.now outcome c.step.ensures.answer more)
+    subst (λ (reading : Reading). length reading.waiting < 370) (sym c.step.ensures.after) (room_left c.args.self.now outcome c.step.ensures.answer more)
 
 pub returns-clause-drained : goal.returns-clause-drained
 returns-clause-drained c pause =
