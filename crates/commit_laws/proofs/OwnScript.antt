@@ -24,7 +24,7 @@ lists_from n (h ∷ hosts) t = operations_of n t ∷ lists_from (n + 1) hosts t
 
 -- the script of the operations that a trace began (own rule)
 abbrev pub script_of : Configuration → List (Line × Bytes64) → List Event → ScriptValue
-script_of setup opening t = record { setup = setup; room = 0; opening = opening; operations = lists_from 0 setup.streams t; picks = [] }
+script_of setup opening t = record { setup = setup; names = []; room = 0; opening = opening; operations = lists_from 0 setup.streams t; picks = [] }
 
 -- there are as many lists as streams
 pub lists_long : (n : ℕ) (hosts : List ℕ) (t : List Event) → length (lists_from n hosts t) ≡ length hosts

@@ -15,6 +15,7 @@ mod reading;
 mod rooms;
 
 pub use laws::{message_parts, op_parts};
+pub use matching::same_message;
 pub use messages::{MessageHead, MessageRef};
 pub use operations::{OpHead, OpRef};
 pub use parts::{CauseRef, CommitRef, OutRef, SendsRef};

@@ -46,8 +46,8 @@ fn same_out(first: OutRef<'_>, second: OutRef<'_>) -> bool
     first.host == second.host && same_message(first.message, second.message)
 }
 
-/// Whether two messages are the same.
-fn same_message(first: MessageRef<'_>, second: MessageRef<'_>) -> bool
+/// Whether two messages in parts are the same: the same head, and the same payload where it has one (own rule).
+pub fn same_message(first: MessageRef<'_>, second: MessageRef<'_>) -> bool
     ensures { IsTrue result ↔ (message_of first.entry ≡ message_of second.entry) }
 {
     if !same_head(&first.head, &second.head) {

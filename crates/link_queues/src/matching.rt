@@ -1,5 +1,5 @@
 // Whether two messages in parts are the same, and which message of a list in parts is meant.
-ghost use Rattle.std.specs.Prelude.{◌≡◌, ◌<◌, ◌↔◌, IsTrue, Some, length, slice_get};
+ghost use Rattle.std.specs.Prelude.{◌≡◌, ◌<◌, Some, length, slice_get};
 ghost use Rattle.std.specs.Option.{option_map_or};
 ghost use Rattle.cxl_message.specs.Messages.{has_tag as message_has_tag, is_conflict_ack as message_is_ack, message_eq, tag_of};
 ghost use Rattle.coherence_model.specs.Flight.{shares_tag as message_shares_tag};
@@ -8,33 +8,13 @@ ghost use Rattle.event_room.specs.Parts.{message_of};
 ghost use Rattle.link_queues.specs.Queues.{joined};
 
 use cxl_message::{Bytes64, NdrOp, Tag};
-use event_room::{MessageHead, MessageRef};
+use event_room::{MessageHead, MessageRef, same_message};
 
 /// Whether two messages are the same.
 pub fn is_same(first: MessageRef<'_>, second: MessageRef<'_>) -> bool
     ensures { result ≡ message_eq (message_of first.entry) (message_of second.entry) }
 {
-    same_parts(first, second)
-}
-
-/// Whether two messages have the same head, and the same payload where they have one.
-fn same_parts(first: MessageRef<'_>, second: MessageRef<'_>) -> bool
-    ensures { IsTrue result ↔ (message_of first.entry ≡ message_of second.entry) }
-{
-    if !same_head(&first.head, &second.head) {
-        return false;
-    }
-    if !first.head.has_payload() {
-        return true;
-    }
-    *first.payload == *second.payload
-}
-
-/// Whether two heads are the same.
-fn same_head(first: &MessageHead, second: &MessageHead) -> bool
-    ensures { IsTrue result ↔ (first.now ≡ second.now) }
-{
-    *first == *second
+    same_message(first, second)
 }
 
 /// Whether a message is a BI-ConflictAck.

@@ -241,4 +241,4 @@ setup_of hosts lines entries ways tags credits streams = record { hosts = hosts;
 
 -- a script without an opening, with room for 100 events of each agent
 abbrev pub script_of : Configuration → List (List Op) → List ℕ → ScriptValue
-script_of setup operations picks = record { setup = setup; room = 100; opening = []; operations = operations; picks = picks }
+script_of setup operations picks = record { setup = setup; names = []; room = 100; opening = []; operations = operations; picks = picks }

@@ -3,4 +3,4 @@ use Rattle.cxl_message.proofs.Decided.{message_decided}
 use Rattle.link_queues.proofs.matching.is_same.Goals as goal
 
 pub returns : goal.returns
-returns c = message_decided c.same_parts.result _ _ c.same_parts.ensures
+returns c = message_decided c.same_message.result _ _ c.same_message.ensures
