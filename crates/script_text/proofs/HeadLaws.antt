@@ -115,7 +115,7 @@ bare c = without_streams c.hosts c.lines c.entries c.ways c.tags c.credits
 
 -- the script of seven lines
 abbrev pub start : Configuration → ℕ → ScriptValue
-start c room = record { setup = c; room = room; opening = []; operations = []; picks = [] }
+start c room = record { setup = c; names = []; room = room; opening = []; operations = []; picks = [] }
 
 pub head_again : (s : ScriptValue) (rest : List ℕ) → IsWithinLimits s.setup → s.setup.tags ≤ 64 → (1 ≤ s.room) × (s.room ≤ 200000) → head_at (head_bytes s ++ rest) ≡ Ok (bare s.setup, s.room, rest)
 unfolding head_at

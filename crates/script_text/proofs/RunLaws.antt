@@ -51,7 +51,7 @@ run_step s t l ls e same = ap (λ (o : Option ScriptReason). option_and_then (λ
 
 -- a script of these parts
 abbrev pub whole : Configuration → ℕ → List (Line × Bytes64) → List ℕ → List (List Op) → List ℕ → ScriptValue
-whole c room opening hosts operations picks = record { setup = record c { streams = hosts }; room = room; opening = opening; operations = operations; picks = picks }
+whole c room opening hosts operations picks = record { setup = record c { streams = hosts }; names = []; room = room; opening = opening; operations = operations; picks = picks }
 
 -- ---- openings
 

@@ -56,4 +56,4 @@ large_setup =
 abbrev pub generated : ℕ → ℕ → ScriptValue
 generated count seed =
     let drawn = drawn_operations seed count in
-    record { setup = large_setup; room = MAX_ROOM; opening = []; operations = drawn.0; picks = (drawn_picks drawn.1 (8 * count)).0 }
+    record { setup = large_setup; names = []; room = MAX_ROOM; opening = []; operations = drawn.0; picks = (drawn_picks drawn.1 (8 * count)).0 }

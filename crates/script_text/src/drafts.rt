@@ -27,7 +27,7 @@ pub struct Draft {
 impl Draft {
     /// A draft with no line after the seventh.
     pub fn new(alloc: Global, setup: Setup, room: u32) -> Draft
-        ensures script { script_of result ≡ record { setup = setup; room = room; opening = []; operations = []; picks = [] } }
+        ensures script { script_of result ≡ record { setup = setup; names = []; room = room; opening = []; operations = []; picks = [] } }
         ensures counted { IsCounted result }
     {
         Draft {
