@@ -8,9 +8,10 @@ use Rattle.std.proofs.lemmas.List.{append-nil, drop_all, drop_more}
 use Rattle.std.proofs.lemmas.List.Concat.{flat_map-append}
 use Rattle.std.proofs.lemmas.Option.{get_or_from_slice_get, slice_get_within}
 use Rattle.cxl_message.specs.declared.events.Op.{Op}
+use Rattle.cxl_message.specs.Names.{name_of}
 use Rattle.cxl_message.specs.Script.{ScriptValue}
 use Rattle.script_text.specs.declared.lines.ScriptLine.{ScriptLine}
-use Rattle.script_text.specs.Spelling.{body_lines, head_bytes, hex, line_bytes, op_line, open_line, script_bytes, stream_lines}
+use Rattle.script_text.specs.Spelling.{body_lines, head_bytes, hex, line_bytes, op_line, open_line, script_bytes, stream_line, stream_lines}
 
 -- one more of a list, where `rest` says what a list appends
 pub appended_more : {A : Type 0} (rest : List A → List ℕ) (one : List ℕ) (xs : List A) (k : ℕ) (d : A) (out new total : List ℕ) → k < length xs
@@ -29,26 +30,27 @@ drop_at : (streams : List (List Op)) (k : ℕ) (ops : List Op) → slice_get str
 drop_at streams k ops found =
     drop_more streams k ops (slice_get_within streams k ops found) ∙ ap (λ (x : List Op). x ∷ drop (k + 1) streams) (get_or_from_slice_get streams k ops ops found)
 
--- the lines of a stream: its host, then its operations, then the other streams'
-pub stream_more : (hosts : List ℕ) (streams : List (List Op)) (k d : ℕ) (ops : List Op) (out middle new total : List ℕ) → k < length hosts → k < length streams → slice_get streams k ≡ Some ops
-    → middle ≡ out ++ line_bytes (ScriptLine.Stream (get_or hosts k d)) → new ≡ middle ++ flat_map line_bytes (map op_line ops)
-    → out ++ flat_map line_bytes (stream_lines (drop k hosts) (drop k streams)) ≡ total → new ++ flat_map line_bytes (stream_lines (drop (k + 1) hosts) (drop (k + 1) streams)) ≡ total
-stream_more hosts streams k d ops out middle new total below within found host operations so_far =
-    let more = stream_lines (drop (k + 1) hosts) (drop (k + 1) streams) in
-    let first = line_bytes (ScriptLine.Stream (get_or hosts k d)) in
+-- the lines of a stream: its host and name, then its operations, then the other streams'
+pub stream_more : (names : List (ℕ × List ℕ)) (hosts : List ℕ) (streams : List (List Op)) (k d : ℕ) (ops : List Op) (out middle new total : List ℕ) → k < length hosts → k < length streams → slice_get streams k ≡ Some ops
+    → middle ≡ out ++ line_bytes (stream_line (get_or hosts k d) (name_of names k)) → new ≡ middle ++ flat_map line_bytes (map op_line ops)
+    → out ++ flat_map line_bytes (stream_lines names k (drop k hosts) (drop k streams)) ≡ total → new ++ flat_map line_bytes (stream_lines names (k + 1) (drop (k + 1) hosts) (drop (k + 1) streams)) ≡ total
+stream_more names hosts streams k d ops out middle new total below within found host operations so_far =
+    let more = stream_lines names (k + 1) (drop (k + 1) hosts) (drop (k + 1) streams) in
+    let line = stream_line (get_or hosts k d) (name_of names k) in
+    let first = line_bytes line in
     let text = flat_map line_bytes (map op_line ops) in
-    let opened : stream_lines (drop k hosts) (drop k streams) ≡ ScriptLine.Stream (get_or hosts k d) ∷ map op_line ops ++ more =
-    ap (λ (hs : List ℕ). stream_lines hs (drop k streams)) (drop_more hosts k d below) ∙ ap (λ (ss : List (List Op)). stream_lines (get_or hosts k d ∷ drop (k + 1) hosts) ss) (drop_at streams k ops found) in
-    let spelled : flat_map line_bytes (stream_lines (drop k hosts) (drop k streams)) ≡ first ++ (text ++ flat_map line_bytes more) =
+    let opened : stream_lines names k (drop k hosts) (drop k streams) ≡ line ∷ map op_line ops ++ more =
+    ap (λ (hs : List ℕ). stream_lines names k hs (drop k streams)) (drop_more hosts k d below) ∙ ap (λ (ss : List (List Op)). stream_lines names k (get_or hosts k d ∷ drop (k + 1) hosts) ss) (drop_at streams k ops found) in
+    let spelled : flat_map line_bytes (stream_lines names k (drop k hosts) (drop k streams)) ≡ first ++ (text ++ flat_map line_bytes more) =
     ap (flat_map line_bytes) opened ∙ ap (λ (t : List ℕ). first ++ t) (flat_map-append line_bytes (map op_line ops) more) in
     ap (λ (t : List ℕ). t ++ flat_map line_bytes more) (operations ∙ ap (λ (t : List ℕ). t ++ text) host)
     ∙ append_assoc (out ++ first) text (flat_map line_bytes more) ∙ append_assoc out first (text ++ flat_map line_bytes more)
     ∙ ap (λ (t : List ℕ). out ++ t) (sym spelled) ∙ so_far
 
 -- no stream is left
-pub streams_all : (hosts : List ℕ) (streams : List (List Op)) (k : ℕ) (out total : List ℕ) → length hosts ≤ k → out ++ flat_map line_bytes (stream_lines (drop k hosts) (drop k streams)) ≡ total → out ≡ total
-streams_all hosts streams k out total le so_far =
-    sym (append-nil out) ∙ ap (λ (hs : List ℕ). out ++ flat_map line_bytes (stream_lines hs (drop k streams))) (sym (drop_all k hosts le)) ∙ so_far
+pub streams_all : (names : List (ℕ × List ℕ)) (hosts : List ℕ) (streams : List (List Op)) (k : ℕ) (out total : List ℕ) → length hosts ≤ k → out ++ flat_map line_bytes (stream_lines names k (drop k hosts) (drop k streams)) ≡ total → out ≡ total
+streams_all names hosts streams k out total le so_far =
+    sym (append-nil out) ∙ ap (λ (hs : List ℕ). out ++ flat_map line_bytes (stream_lines names k hs (drop k streams))) (sym (drop_all k hosts le)) ∙ so_far
 
 -- the parts of a word's line are the line
 pub word_parts : (out a b d new bytes : List ℕ) (line place place_read value : ℕ) → a ≡ out ++ (codes "word" ++ 32 ∷ decimal line) → b ≡ a ++ 32 ∷ [] → d ≡ b ++ decimal place_read → new ≡ d ++ (32 ∷ hex bytes ++ 10 ∷ [])
@@ -64,11 +66,11 @@ word_parts out a b d new bytes line place place_read value named space number la
 
 -- the parts of a script's text are the text
 pub script_parts : (s : ScriptValue) (start a b d new : List ℕ) → start ≡ [] → a ≡ start ++ head_bytes s → b ≡ a ++ flat_map line_bytes (map open_line s.opening)
-    → d ≡ b ++ flat_map line_bytes (stream_lines s.setup.streams s.operations) → new ≡ d ++ flat_map line_bytes (map (λ pick. ScriptLine.Pick pick) s.picks) → new ≡ script_bytes s
+    → d ≡ b ++ flat_map line_bytes (stream_lines s.names 0 s.setup.streams s.operations) → new ≡ d ++ flat_map line_bytes (map (λ pick. ScriptLine.Pick pick) s.picks) → new ≡ script_bytes s
 unfolding script_bytes
 script_parts s start a b d new none head openings streams picks =
     let opens = map open_line s.opening in
-    let lines = stream_lines s.setup.streams s.operations in
+    let lines = stream_lines s.names 0 s.setup.streams s.operations in
     let last = map (λ (pick : ℕ). ScriptLine.Pick pick) s.picks in
     let spelled : flat_map line_bytes (body_lines s) ≡ flat_map line_bytes opens ++ flat_map line_bytes lines ++ flat_map line_bytes last =
     flat_map-append line_bytes (opens ++ lines) last ∙ ap (λ (t : List ℕ). t ++ flat_map line_bytes last) (flat_map-append line_bytes opens lines) in

@@ -14,7 +14,7 @@ use Rattle.script_text.specs.declared.refusals.ScriptRefusal.{ScriptRefusal}
 use Rattle.script_text.specs.Failures.{FailsAt, FailsInBody, FailuresAreAlone, FailuresAreNoScripts, LineFailure, RefusedLine}
 use Rattle.script_text.specs.Head.{head_at}
 use Rattle.script_text.specs.Lines.{first_line}
-use Rattle.script_text.specs.Refusals.{line_refusal, op_refusal, takes_openings, takes_operations, with_line}
+use Rattle.script_text.specs.Refusals.{line_refusal, op_refusal, stream_refusal, takes_openings, takes_operations, with_line}
 use Rattle.script_text.specs.Script.{IsScript, IsSpelled, operation_count}
 use Rattle.script_text.specs.Spelling.{body_lines, head_bytes, line_bytes, line_text, script_bytes, stream_lines}
 use Rattle.script_text.proofs.BodyLaws.{lines-with_line}
@@ -134,7 +134,7 @@ same_Ok x y e = cc
 head_read : (text : List ℕ) (at : ℕ) (reason : ScriptReason) (h : FailsInBody text at reason) → head_at text ≡ Ok (bare h.script.setup, h.script.room, text_of (body_lines h.script) ++ h.rest)
 unfolding script_bytes
 head_read text at reason h =
-    ap head_at (h.begins ∙ append_assoc (head_bytes h.script) (text_of (body_lines h.script)) h.rest) ∙ head_again h.script (text_of (body_lines h.script) ++ h.rest) h.is.setup h.is.tags h.is.room
+    ap head_at (h.begins ∙ append_assoc (head_bytes h.script) (text_of (body_lines h.script)) h.rest) ∙ head_again h.script (text_of (body_lines h.script) ++ h.rest) h.is.setup h.is.room
 
 -- two failures of one text are one
 abbrev IsOne : ℕ → ℕ → ScriptReason → ScriptReason → Type 0
@@ -184,7 +184,7 @@ spelled_compared text at reason h s is begun (left_beyond b) = not_begun b.line 
 body_spells_none : (text : List ℕ) (at : ℕ) (reason : ScriptReason) → FailsInBody text at reason → SpellsNone text
 unfolding script_bytes
 body_spells_none text at reason h s is e =
-    let read = ap head_at e ∙ head_again s (text_of (body_lines s)) is.setup is.tags is.room in
+    let read = ap head_at e ∙ head_again s (text_of (body_lines s)) is.setup is.room in
     let both = same_Ok _ _ (sym (head_read text at reason h) ∙ read) in
     let begun : start (bare h.script.setup) h.script.room ≡ start (bare s.setup) s.room = ap (λ (x : Configuration × ℕ × List ℕ). start x.0 x.1) both in
     let texts : text_of (body_lines h.script) ++ h.rest ≡ text_of (body_lines s) = ap (λ (x : Configuration × ℕ × List ℕ). x.2) both in
@@ -240,15 +240,19 @@ op_not_missing d fits e =
     other_reason (not (takes_operations d)) _ _ not_spelling
     (other_reason (not fits) _ _ not_range (other_reason (not (nat_lt (operation_count d.operations) 65536)) _ _ not_many not_nothing)) e
 
+stream_not_missing : (d : ScriptValue) (host : ℕ) → stream_refusal d host ≡ Some ScriptReason.Missing → ⊥
+stream_not_missing d host e =
+    other_reason (not (length d.picks == 0)) _ _ not_spelling
+    (other_reason (not (nat_lt host d.setup.hosts)) _ _ not_range (other_reason (not (nat_lt (length d.setup.streams) 64)) _ _ not_many not_nothing)) e
+
 -- no line that stands there is refused because it is missing
 never_missing : (d : ScriptValue) (l : ScriptLine) → line_refusal d l ≡ Some ScriptReason.Missing → ⊥
 never_missing d (ScriptLine.Open line bytes) e =
     other_reason (not (takes_openings d)) _ _ not_spelling
     (other_reason (not (nat_lt line d.setup.lines)) _ _ not_range
     (other_reason (not (is_after_last d.opening line && not (bytes_eq bytes zero_bytes))) _ _ not_order not_nothing)) e
-never_missing d (ScriptLine.Stream host) e =
-    other_reason (not (length d.picks == 0)) _ _ not_spelling
-    (other_reason (not (nat_lt host d.setup.hosts)) _ _ not_range (other_reason (not (nat_lt (length d.setup.streams) 64)) _ _ not_many not_nothing)) e
+never_missing d (ScriptLine.Stream host) e = stream_not_missing d host e
+never_missing d (ScriptLine.NamedStream host name) e = stream_not_missing d host e
 never_missing d (ScriptLine.Load line) e = op_not_missing d _ e
 never_missing d (ScriptLine.Word line place value) e = op_not_missing d _ e
 never_missing d (ScriptLine.Whole line bytes) e = op_not_missing d _ e
@@ -284,14 +288,14 @@ fails_at_refused text d rest at l after reason h line first refused =
     })
 
 -- the number of the next line
-pub next_place : (d new : ScriptValue) (number : ℕ) (l : ScriptLine) → length d.operations ≡ length d.setup.streams → line_refusal d l ≡ None → new ≡ with_line d l
+pub next_place : (d new : ScriptValue) (number : ℕ) (l : ScriptLine) → IsScript d → line_refusal d l ≡ None → new ≡ with_line d l
     → number ≡ 8 + length (body_lines d) → number + 1 ≡ 8 + length (body_lines new)
-next_place d new number l streams allowed is place =
-    let lines = ap (λ (x : List ScriptLine). length x) (ap body_lines is ∙ lines-with_line d l streams allowed) in
+next_place d new number l script allowed is place =
+    let lines = ap (λ (x : List ScriptLine). length x) (ap body_lines is ∙ lines-with_line d l script allowed) in
     omega (arith, lines, length-append (body_lines d) (l ∷ []), place)
 
 -- the first line after the seven is the eighth
 pub first_place : (d : ScriptValue) (c : Configuration) (room : ℕ) → d ≡ start c room → 8 ≡ 8 + length (body_lines d)
 first_place d c room is =
-    let none : body_lines (start c room) ≡ [] = append-nil (stream_lines c.streams []) ∙ no_lines c.streams in
+    let none : body_lines (start c room) ≡ [] = append-nil (stream_lines [] 0 c.streams []) ∙ no_lines [] 0 c.streams in
     omega (arith, ap (λ (x : List ScriptLine). length x) (ap body_lines is ∙ none))

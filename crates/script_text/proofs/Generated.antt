@@ -1,7 +1,7 @@
 -- What the generator draws is a script: each operation fits, each pick is within its limit, and there are as many operations as
 -- were drawn.
-use Rattle.std.proofs.Common.{◌≡◌, ℕ, zero, suc, ◌+◌, ◌*◌, ◌%◌, ◌<◌, ◌≤◌, Bool, true, IsTrue, List, [], ◌∷◌, ◌++◌, length, get_or, set, map, refl, sym, ap, ◌∙◌, arith}
-use Rattle.std.specs.Prelude.{◌&&◌, ◌==◌, nat_lt, nat_le}
+use Rattle.std.proofs.Common.{◌≡◌, ℕ, zero, suc, ◌*◌, ◌%◌, ◌<◌, ◌≤◌, Bool, IsTrue, List, [], ◌∷◌, ◌++◌, length, get_or, set, map, refl, sym, ap, ◌∙◌, arith}
+use Rattle.std.specs.Prelude.{◌==◌, nat_lt, nat_le}
 use Rattle.std.specs.Global.{Vec}
 use Rattle.std.specs.Int.{w64, to_be_bytes}
 use Rattle.std.specs.List.{list_all}
@@ -105,7 +105,8 @@ pub generated_is_script : (count seed : ℕ) → count ≤ 65536 → IsScript (g
 generated_is_script count seed few =
     record {
       setup = record { hosts = (omega arith, omega arith); lines = (omega arith, omega arith); entries = (omega arith, omega arith); ways = (omega arith, omega arith); tags = (omega arith, omega arith); credits = (omega arith, omega arith); streams = omega arith; stream_hosts = refl };
-      tags = omega arith;
+      names = record { ascending = refl; spelled = refl };
+      named = refl;
       room = (omega arith, omega arith);
       opening = record { ascending = refl; not_zero = refl };
       opening_lines = refl;

@@ -79,7 +79,7 @@ abbrev from_credits : List HeadForm
 from_credits = form_of (codes "credits") 2 64 ∷ from_room
 
 abbrev from_tags : List HeadForm
-from_tags = form_of (codes "tags") 2 64 ∷ from_credits
+from_tags = form_of (codes "tags") 2 1024 ∷ from_credits
 
 abbrev from_ways : List HeadForm
 from_ways = form_of (codes "ways") 1 256 ∷ from_tags
@@ -96,7 +96,7 @@ unfolding head_at
 head_fails text at reason e =
     step (form_of (codes "hosts") 1 16) from_lines 1 text _ _ at reason refl refl refl e (λ a e. step (form_of (codes "lines") 1 65536) from_filter 2 a.1 _ _ at reason refl refl refl e (λ b e.
     step (form_of (codes "filter") 1 4096) from_ways 3 b.1 _ _ at reason refl refl refl e (λ c e. step (form_of (codes "ways") 1 256) from_tags 4 c.1 _ _ at reason refl refl refl e (λ d e.
-    step (form_of (codes "tags") 2 64) from_credits 5 d.1 _ _ at reason refl refl refl e (λ f e. step (form_of (codes "credits") 2 64) from_room 6 f.1 _ _ at reason refl refl refl e (λ g e.
+    step (form_of (codes "tags") 2 1024) from_credits 5 d.1 _ _ at reason refl refl refl e (λ f e. step (form_of (codes "credits") 2 64) from_room 6 f.1 _ _ at reason refl refl refl e (λ g e.
     step (form_of (codes "room") 1 200000) [] 7 g.1 _ _ at reason refl refl refl e (λ x e. absurd (ok-err _ _ e))))))))
 
 -- ---- the other way round
@@ -133,5 +133,5 @@ unfolding head_at
 head_refused text at reason h =
     back (form_of (codes "hosts") 1 16) from_lines 1 text _ at reason refl refl (lit< tt) h (λ a h. back (form_of (codes "lines") 1 65536) from_filter 2 a.1 _ at reason refl refl (lit< tt) h (λ b h.
     back (form_of (codes "filter") 1 4096) from_ways 3 b.1 _ at reason refl refl (lit< tt) h (λ c h. back (form_of (codes "ways") 1 256) from_tags 4 c.1 _ at reason refl refl (lit< tt) h (λ d h.
-    back (form_of (codes "tags") 2 64) from_credits 5 d.1 _ at reason refl refl (lit< tt) h (λ f h. back (form_of (codes "credits") 2 64) from_room 6 f.1 _ at reason refl refl (lit< tt) h (λ g h.
+    back (form_of (codes "tags") 2 1024) from_credits 5 d.1 _ at reason refl refl (lit< tt) h (λ f h. back (form_of (codes "credits") 2 64) from_room 6 f.1 _ at reason refl refl (lit< tt) h (λ g h.
     back (form_of (codes "room") 1 200000) [] 7 g.1 _ at reason refl refl (lit< tt) h (λ x h. absurd h)))))))

@@ -117,28 +117,28 @@ bare c = without_streams c.hosts c.lines c.entries c.ways c.tags c.credits
 abbrev pub start : Configuration → ℕ → ScriptValue
 start c room = record { setup = c; names = []; room = room; opening = []; operations = []; picks = [] }
 
-pub head_again : (s : ScriptValue) (rest : List ℕ) → IsWithinLimits s.setup → s.setup.tags ≤ 64 → (1 ≤ s.room) × (s.room ≤ 200000) → head_at (head_bytes s ++ rest) ≡ Ok (bare s.setup, s.room, rest)
+pub head_again : (s : ScriptValue) (rest : List ℕ) → IsWithinLimits s.setup → (1 ≤ s.room) × (s.room ≤ 200000) → head_at (head_bytes s ++ rest) ≡ Ok (bare s.setup, s.room, rest)
 unfolding head_at
-head_again s rest h few room =
+head_again s rest h room =
     ap head_at (onto_is (settings s) rest)
     ∙ rw (
       number_line_again 1 (codes "hosts") 1 16 s.setup.hosts _ refl refl (omega arith) h.hosts.0 h.hosts.1,
       number_line_again 2 (codes "lines") 1 65536 s.setup.lines _ refl refl (omega arith) h.lines.0 h.lines.1,
       number_line_again 3 (codes "filter") 1 4096 s.setup.entries _ refl refl (omega arith) h.entries.0 h.entries.1,
       number_line_again 4 (codes "ways") 1 256 s.setup.ways _ refl refl (omega arith) h.ways.0 h.ways.1,
-      number_line_again 5 (codes "tags") 2 64 s.setup.tags _ refl refl (omega arith) h.tags.0 few,
+      number_line_again 5 (codes "tags") 2 1024 s.setup.tags _ refl refl (omega arith) h.tags.0 h.tags.1,
       number_line_again 6 (codes "credits") 2 64 s.setup.credits _ refl refl (omega arith) h.credits.0 h.credits.1,
       number_line_again 7 (codes "room") 1 200000 s.room _ refl refl (omega arith) room.0 room.1,
     ) refl
 
 -- seven lines within their limits are a script
-start_is : (a b c d f g h : ℕ) → (1 ≤ a) × (a ≤ 16) → (1 ≤ b) × (b ≤ 65536) → (1 ≤ c) × (c ≤ 4096) → (1 ≤ d) × (d ≤ 256) → (2 ≤ f) × (f ≤ 64) → (2 ≤ g) × (g ≤ 64) → (1 ≤ h) × (h ≤ 200000)
+start_is : (a b c d f g h : ℕ) → (1 ≤ a) × (a ≤ 16) → (1 ≤ b) × (b ≤ 65536) → (1 ≤ c) × (c ≤ 4096) → (1 ≤ d) × (d ≤ 256) → (2 ≤ f) × (f ≤ 1024) → (2 ≤ g) × (g ≤ 64) → (1 ≤ h) × (h ≤ 200000)
     → IsScript (start (without_streams a b c d f g) h)
 start_is a b c d f g h hosts lines entries ways tags credits room =
     let none : 0 ≤ 64 = omega arith in
     let no_operations : 0 ≤ 65536 = omega arith in
-    let within : IsWithinLimits (without_streams a b c d f g) = record { hosts = hosts; lines = lines; entries = entries; ways = ways; tags = (tags.0, omega (arith, tags.1)); credits = credits; streams = none; stream_hosts = refl } in
-    record { setup = within; tags = tags.1; room = room; opening = record { ascending = refl; not_zero = refl }; opening_lines = refl; opening_bytes = refl; streams = refl; operations = refl; operation_count = no_operations; picks = refl }
+    let within : IsWithinLimits (without_streams a b c d f g) = record { hosts = hosts; lines = lines; entries = entries; ways = ways; tags = tags; credits = credits; streams = none; stream_hosts = refl } in
+    record { setup = within; names = record { ascending = refl; spelled = refl }; named = refl; room = room; opening = record { ascending = refl; not_zero = refl }; opening_lines = refl; opening_bytes = refl; streams = refl; operations = refl; operation_count = no_operations; picks = refl }
 
 -- their text
 start_text : (a b c d f g h : ℕ) (text t1 t2 t3 t4 t5 t6 t7 : List ℕ) → text ≡ setting (codes "hosts") a ++ t1 → t1 ≡ setting (codes "lines") b ++ t2 → t2 ≡ setting (codes "filter") c ++ t3
@@ -157,14 +157,14 @@ abbrev IsRead : List ℕ → Configuration × ℕ × List ℕ → Type 0
 IsRead text head = (text ≡ head_bytes (start head.0 head.1) ++ head.2) × IsScript (start head.0 head.1)
 
 head_made : (text : List ℕ) (a b c d f g h : ℕ × List ℕ) (head : Configuration × ℕ × List ℕ) → number_at 1 (codes "hosts") 1 16 text ≡ Ok a → number_at 2 (codes "lines") 1 65536 a.1 ≡ Ok b
-    → number_at 3 (codes "filter") 1 4096 b.1 ≡ Ok c → number_at 4 (codes "ways") 1 256 c.1 ≡ Ok d → number_at 5 (codes "tags") 2 64 d.1 ≡ Ok f → number_at 6 (codes "credits") 2 64 f.1 ≡ Ok g
+    → number_at 3 (codes "filter") 1 4096 b.1 ≡ Ok c → number_at 4 (codes "ways") 1 256 c.1 ≡ Ok d → number_at 5 (codes "tags") 2 1024 d.1 ≡ Ok f → number_at 6 (codes "credits") 2 64 f.1 ≡ Ok g
     → number_at 7 (codes "room") 1 200000 g.1 ≡ Ok h → (without_streams a.0 b.0 c.0 d.0 f.0 g.0, h.0, h.1) ≡ head → IsRead text head
 head_made text a b c d f g h head ea eb ec ed ef eg eh e =
     let hosts = number_line_take 1 (codes "hosts") 1 16 text a ea in
     let lines = number_line_take 2 (codes "lines") 1 65536 a.1 b eb in
     let entries = number_line_take 3 (codes "filter") 1 4096 b.1 c ec in
     let ways = number_line_take 4 (codes "ways") 1 256 c.1 d ed in
-    let tags = number_line_take 5 (codes "tags") 2 64 d.1 f ef in
+    let tags = number_line_take 5 (codes "tags") 2 1024 d.1 f ef in
     let credits = number_line_take 6 (codes "credits") 2 64 f.1 g eg in
     let room = number_line_take 7 (codes "room") 1 200000 g.1 h eh in
     let spelled = start_text a.0 b.0 c.0 d.0 f.0 g.0 h.0 text a.1 b.1 c.1 d.1 f.1 g.1 h.1 hosts.0 lines.0 entries.0 ways.0 tags.0 credits.0 room.0 in
@@ -178,7 +178,7 @@ head_take text head e =
     let b = bind_ok (number_at 2 (codes "lines") 1 65536 a.0.1) _ head a.2 in
     let c = bind_ok (number_at 3 (codes "filter") 1 4096 b.0.1) _ head b.2 in
     let d = bind_ok (number_at 4 (codes "ways") 1 256 c.0.1) _ head c.2 in
-    let f = bind_ok (number_at 5 (codes "tags") 2 64 d.0.1) _ head d.2 in
+    let f = bind_ok (number_at 5 (codes "tags") 2 1024 d.0.1) _ head d.2 in
     let g = bind_ok (number_at 6 (codes "credits") 2 64 f.0.1) _ head f.2 in
     let h = bind_ok (number_at 7 (codes "room") 1 200000 g.0.1) _ head g.2 in
     head_made text a.0 b.0 c.0 d.0 f.0 g.0 h.0 head a.1 b.1 c.1 d.1 f.1 g.1 h.1 (same_Ok _ head h.2)

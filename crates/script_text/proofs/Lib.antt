@@ -1,6 +1,7 @@
 pub mod Numbers
 pub mod Digits
 pub mod Streams
+pub mod NameLaws
 pub mod WordLaws
 pub mod LineLaws
 pub mod HeadLaws

@@ -1,5 +1,5 @@
 -- A line that is read is the line that is spelled so, and what is spelled so is read.
-use Rattle.std.proofs.Common.{◌≡◌, ℕ, zero, suc, ◌^◌, ◌/◌, ◌%◌, ◌<◌, Bool, true, IsTrue, List, [], ◌∷◌, ◌++◌, length, get_or, Some, refl, sym, ap, subst, ◌∙◌, inl, inr, append_assoc, arith}
+use Rattle.std.proofs.Common.{◌≡◌, ℕ, zero, suc, ◌^◌, ◌/◌, ◌%◌, ◌<◌, Bool, true, IsTrue, List, [], ◌∷◌, ◌++◌, length, get_or, Option, Some, None, refl, sym, ap, subst, ◌∙◌, inl, inr, append_assoc, arith}
 use Rattle.std.specs.Prelude.{◌&&◌, nat_lt, codes}
 use Rattle.std.specs.Fmt.{decimal}
 use Rattle.std.specs.Int.{w64, to_be_bytes, from_be_bytes}
@@ -9,12 +9,13 @@ use Rattle.std.proofs.lemmas.Nat.{be_bytes_8, from_be_bytes-to_be_bytes_8}
 use Rattle.std.proofs.lemmas.Option.{same_Some, none-some}
 use Rattle.std.proofs.lemmas.Slice.Eq.{bytes_eq-Decides}
 use Rattle.cxl_message.specs.declared.identifiers.Bytes64.{Bytes64}
+use Rattle.cxl_message.specs.Names.{is_name}
 use Rattle.script_text.specs.declared.lines.ScriptLine.{ScriptLine}
 use Rattle.script_text.specs.Script.{IsSpelled, are_line_bytes}
 use Rattle.script_text.specs.Spelling.{hex, line_text, line_bytes}
-use Rattle.script_text.specs.Words.{◌>>=◌, parts_at, number_in, just_bytes_in}
-use Rattle.script_text.specs.Lines.{line_and_bytes_in, word_in, line_of_word, line_in, first_line}
-use Rattle.script_text.proofs.WordLaws.{bind_some, Lacks, lacks-append, parts_take, parts_again, number_take, number_again, decimal_lacks, AreBytes, just_bytes_take, just_bytes_again, hex_lacks, chosen}
+use Rattle.script_text.specs.Words.{◌>>=◌, parts_at, number_in, name_in, just_bytes_in}
+use Rattle.script_text.specs.Lines.{line_and_bytes_in, word_in, named_stream_in, stream_of_parts, stream_in, line_of_word, line_in, first_line}
+use Rattle.script_text.proofs.WordLaws.{bind_some, Lacks, lacks-append, parts_take, parts_again, no_parts, number_take, number_again, decimal_lacks, name_take, name_again, name_lacks, AreBytes, just_bytes_take, just_bytes_again, hex_lacks, chosen}
 
 -- ---- a number and 64 bytes
 
@@ -90,12 +91,47 @@ word_take text l e =
     let f = bind_some (just_bytes_in 8 b.0.1) (λ bytes. Some (ScriptLine.Word c.0 d.0 (from_be_bytes w64 bytes))) l d.2 in
     word_made text l a.0.0 a.0.1 b.0.0 b.0.1 c.0 d.0 f.0 (parts_take 32 text a.0 a.1) (parts_take 32 a.0.1 b.0 b.1) (number_take _ c.0 c.1) (number_take _ d.0 d.1) (just_bytes_take 8 _ f.0 f.1) (same_Some _ _ f.2)
 
+-- ---- a stream
+
+host_again : (host : ℕ) → host < 10 ^ 10 → stream_in (decimal host) ≡ Some (ScriptLine.Stream host)
+unfolding stream_in
+host_again host below = rw (no_parts 32 (decimal host) (decimal_lacks 32 host (omega arith) below), number_again host below) refl
+
+named_again : (host : ℕ) (name : List ℕ) → host < 10 ^ 10 → IsTrue (is_name name) → stream_in (decimal host ++ 32 ∷ name) ≡ Some (ScriptLine.NamedStream host (record { items = name }))
+unfolding stream_in
+named_again host name below is = rw (parts_again 32 (decimal host) name (decimal_lacks 32 host (omega arith) below), number_again host below, name_again name is) refl
+
+-- what a stream's line is read from
+abbrev IsStreamOf : List ℕ → ScriptLine → Type 0
+IsStreamOf text l = (codes "stream" ++ 32 ∷ text ≡ line_text l) × IsSpelled l
+
+named_take : (text first second : List ℕ) (l : ScriptLine) → text ≡ first ++ 32 ∷ second → named_stream_in first second ≡ Some l → IsStreamOf text l
+named_take text first second l split e =
+    let a = bind_some (number_in first) (λ host. name_in second >>= λ name. Some (ScriptLine.NamedStream host (record { items = name }))) l e in
+    let b = bind_some (name_in second) (λ name. Some (ScriptLine.NamedStream a.0 (record { items = name }))) l a.2 in
+    let host = number_take first a.0 a.1 in
+    let name = name_take second b.0 b.1 in
+    let text-is : text ≡ decimal a.0 ++ 32 ∷ b.0 = split ∙ ap (λ (w : List ℕ). w ++ 32 ∷ second) host.0 ∙ ap (λ (w : List ℕ). decimal a.0 ++ 32 ∷ w) name.0 in
+    subst (λ (x : ScriptLine). IsStreamOf text x) (same_Some _ _ b.2) (ap (λ (w : List ℕ). codes "stream " ++ w) text-is, (host.1, name.1))
+
+parts_of_stream : (text : List ℕ) (l : ScriptLine) (parts : Option (List ℕ × List ℕ)) → parts_at 32 text ≡ parts → stream_of_parts text parts ≡ Some l → IsStreamOf text l
+parts_of_stream text l None is e =
+    let a = bind_some (number_in text) (λ host. Some (ScriptLine.Stream host)) l e in
+    let host = number_take text a.0 a.1 in
+    subst (λ (x : ScriptLine). IsStreamOf text x) (same_Some _ _ a.2) (ap (λ (w : List ℕ). codes "stream " ++ w) host.0, host.1)
+parts_of_stream text l (Some parts) is e = named_take text parts.0 parts.1 l (parts_take 32 text parts is) e
+
+stream_take : (text : List ℕ) (l : ScriptLine) → stream_in text ≡ Some l → IsStreamOf text l
+unfolding stream_in
+stream_take text l e = parts_of_stream text l (parts_at 32 text) refl e
+
 -- ---- lines
 
 pub line_again : (l : ScriptLine) → IsSpelled l → line_in (line_text l) ≡ Some l
 unfolding line_in line_of_word
 line_again (ScriptLine.Open line bytes) h = rw (parts_again 32 (codes "open") (decimal line ++ 32 ∷ hex bytes.0) refl, pair_again line bytes h.0 h.1) refl
-line_again (ScriptLine.Stream host) h = rw (parts_again 32 (codes "stream") (decimal host) refl, number_again host h) refl
+line_again (ScriptLine.Stream host) h = rw (parts_again 32 (codes "stream") (decimal host) refl, host_again host h) refl
+line_again (ScriptLine.NamedStream host name) h = rw (parts_again 32 (codes "stream") (decimal host ++ 32 ∷ name.items) refl, named_again host name.items h.0 h.1) refl
 line_again (ScriptLine.Load line) h = rw (parts_again 32 (codes "load") (decimal line) refl, number_again line h) refl
 line_again (ScriptLine.Word line place value) h =
     word_line_again line place (to_be_bytes w64 value) h.0 h.1 refl (value_bytes value) ∙ ap (λ (v : ℕ). Some (ScriptLine.Word line place v)) (from_be_bytes-to_be_bytes_8 value h.2)
@@ -124,7 +160,7 @@ after_word word rest l e =
     elim (chosen (bytes_eq word (codes "open")) _ _ (Some l) e) [
       | inl is ↦ bytes_form P (λ pair. ScriptLine.Open pair.0 pair.1) rest l is.1 (λ pair text below are. (joined (codes "open") _ is.0 text, (below, are)))
       | inr e ↦ elim (chosen (bytes_eq word (codes "stream")) _ _ (Some l) e.1) [
-        | inl is ↦ number_form P (λ n. ScriptLine.Stream n) rest l is.1 (λ n text below. (joined (codes "stream") _ is.0 text, below))
+        | inl is ↦ let line = stream_take rest l is.1 in (joined (codes "stream") rest is.0 refl ∙ line.0, line.1)
         | inr e ↦ elim (chosen (bytes_eq word (codes "load")) _ _ (Some l) e.1) [
           | inl is ↦ number_form P (λ n. ScriptLine.Load n) rest l is.1 (λ n text below. (joined (codes "load") _ is.0 text, below))
           | inr e ↦ elim (chosen (bytes_eq word (codes "word")) _ _ (Some l) e.1) [
@@ -154,6 +190,7 @@ line_take text l e =
 line_lacks : (l : ScriptLine) → IsSpelled l → Lacks 10 (line_text l)
 line_lacks (ScriptLine.Open line bytes) h = lacks-append 10 (decimal line) (32 ∷ hex bytes.0) (decimal_lacks 10 line (omega arith) h.0) (hex_lacks 10 bytes.0 (omega arith))
 line_lacks (ScriptLine.Stream host) h = decimal_lacks 10 host (omega arith) h
+line_lacks (ScriptLine.NamedStream host name) h = lacks-append 10 (decimal host) (32 ∷ name.items) (decimal_lacks 10 host (omega arith) h.0) (name_lacks 10 name.items (omega arith) h.1)
 line_lacks (ScriptLine.Load line) h = decimal_lacks 10 line (omega arith) h
 line_lacks (ScriptLine.Word line place value) h =
     let first = lacks-append 10 (decimal line) (32 ∷ decimal place) (decimal_lacks 10 line (omega arith) h.0) (decimal_lacks 10 place (omega arith) h.1) in

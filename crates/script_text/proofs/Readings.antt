@@ -27,21 +27,22 @@ pub record Reads (bytes : List ℕ) (d : ScriptValue) (rest : List ℕ) : Type 0
   pub script : IsScript d
 
 -- no operations, no lines of streams
-pub no_lines : (hosts : List ℕ) → stream_lines hosts [] ≡ []
-no_lines [] = refl
-no_lines (host ∷ hosts) = refl
+pub no_lines : (names : List (ℕ × List ℕ)) (k : ℕ) (hosts : List ℕ) → stream_lines names k hosts [] ≡ []
+no_lines names k [] = refl
+no_lines names k (host ∷ hosts) = refl
 
 pub reads_start : (bytes : List ℕ) (head : Configuration × ℕ × List ℕ) → head_at bytes ≡ Ok head → Reads bytes (start head.0 head.1) head.2
 reads_start bytes head e =
     let read = head_take bytes head e in
     let d = start head.0 head.1 in
-    let none : body_lines d ≡ [] = append-nil (stream_lines head.0.streams []) ∙ no_lines head.0.streams in
+    let none : body_lines d ≡ [] = append-nil (stream_lines [] 0 head.0.streams []) ∙ no_lines [] 0 head.0.streams in
     record { text = read.0 ∙ ap (λ (ls : List ScriptLine). head_bytes d ++ (text_of ls ++ head.2)) (sym none); script = read.1 }
 
 -- a line leaves the seven before it
 same_head : (d : ScriptValue) (l : ScriptLine) → head_bytes (with_line d l) ≡ head_bytes d
 same_head d (ScriptLine.Open line bytes) = refl
 same_head d (ScriptLine.Stream host) = refl
+same_head d (ScriptLine.NamedStream host name) = refl
 same_head d (ScriptLine.Load line) = refl
 same_head d (ScriptLine.Word line place value) = refl
 same_head d (ScriptLine.Whole line bytes) = refl
@@ -51,7 +52,7 @@ same_head d (ScriptLine.Pick pick) = refl
 pub reads_more : (bytes : List ℕ) (d : ScriptValue) (rest : List ℕ) (l : ScriptLine) (after : List ℕ) → Reads bytes d rest → first_line rest ≡ Some (l, after) → line_refusal d l ≡ None → Reads bytes (with_line d l) after
 reads_more bytes d rest l after h first allowed =
     let taken = first_take rest (l, after) first in
-    let lines = lines-with_line d l h.script.streams allowed in
+    let lines = lines-with_line d l h.script allowed in
     let one : text_of (l ∷ []) ≡ line_bytes l = append-nil (line_bytes l) in
     let texts : text_of (body_lines d) ++ rest ≡ text_of (body_lines (with_line d l)) ++ after =
     ap (λ (r : List ℕ). text_of (body_lines d) ++ r) taken.0 ∙ sym (append_assoc (text_of (body_lines d)) (line_bytes l) after)
@@ -84,8 +85,8 @@ record Left (d s : ScriptValue) (rest : List ℕ) : Type 0 where
 left : (bytes : List ℕ) (d : ScriptValue) (rest : List ℕ) (s : ScriptValue) → Reads bytes d rest → IsScript s → bytes ≡ script_bytes s → Left d s rest
 unfolding script_bytes
 left bytes d rest s h is e =
-    let mine = head_again d (text_of (body_lines d) ++ rest) h.script.setup h.script.tags h.script.room in
-    let other = head_again s (text_of (body_lines s)) is.setup is.tags is.room in
+    let mine = head_again d (text_of (body_lines d) ++ rest) h.script.setup h.script.room in
+    let other = head_again s (text_of (body_lines s)) is.setup is.room in
     let same : (bare d.setup, d.room, text_of (body_lines d) ++ rest) ≡ (bare s.setup, s.room, text_of (body_lines s)) = same_Ok _ _ (sym mine ∙ ap head_at (sym h.text ∙ e) ∙ other) in
     let begun : start (bare d.setup) d.room ≡ start (bare s.setup) s.room = ap (λ (x : Configuration × ℕ × List ℕ). start x.0 x.1) same in
     let texts : text_of (body_lines d) ++ rest ≡ text_of (body_lines s) = ap (λ (x : Configuration × ℕ × List ℕ). x.2) same in
@@ -129,7 +130,7 @@ stops_at_refused bytes d rest l after reason h first refused s is e = let x = le
 pub stops_in_head : (bytes : List ℕ) (refusal : ScriptRefusal) → head_at bytes ≡ Err refusal → SpellsNone bytes
 unfolding script_bytes
 stops_in_head bytes refusal refused s is e =
-    let read = head_again s (text_of (body_lines s)) is.setup is.tags is.room in
+    let read = head_again s (text_of (body_lines s)) is.setup is.room in
     let both : ◌≡◌ {A = Result (Configuration × ℕ × List ℕ) ScriptRefusal} (Err refusal) (Ok (bare s.setup, s.room, text_of (body_lines s))) = sym refused ∙ ap head_at e ∙ read in
     absurd cc
 

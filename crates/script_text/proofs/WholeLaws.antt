@@ -1,5 +1,5 @@
 -- A text and the script that it spells: at most one, found line by line.
-use Rattle.std.proofs.Common.{◌≡◌, ℕ, ◌^◌, ◌<◌, ◌≤◌, true, List, [], ◌∷◌, ◌++◌, map, None, refl, sym, ap, ◌∙◌, append_assoc, arith}
+use Rattle.std.proofs.Common.{◌≡◌, ℕ, ◌+◌, ◌^◌, ◌<◌, ◌≤◌, true, IsTrue, List, [], ◌∷◌, ◌++◌, map, Option, Some, None, refl, sym, ap, ◌∙◌, append_assoc, arith}
 use Rattle.std.specs.Prelude.{nat_lt, nat_le}
 use Rattle.std.specs.List.{list_all, flat_map}
 use Rattle.std.proofs.lemmas.Bool.{and_parts, ltb-true, leb-true}
@@ -7,13 +7,15 @@ use Rattle.std.proofs.lemmas.Option.{same_Some, none-some}
 use Rattle.cxl_message.specs.declared.identifiers.Line.{Line}
 use Rattle.cxl_message.specs.declared.identifiers.Bytes64.{Bytes64}
 use Rattle.cxl_message.specs.declared.events.Op.{Op}
+use Rattle.cxl_message.specs.Names.{is_name, name_of}
 use Rattle.cxl_message.specs.Script.{ScriptValue}
 use Rattle.script_text.specs.declared.lines.ScriptLine.{ScriptLine}
-use Rattle.script_text.specs.Spelling.{open_line, op_line, stream_lines, body_lines, line_bytes}
+use Rattle.script_text.specs.Spelling.{open_line, op_line, stream_line, stream_lines, body_lines, line_bytes}
 use Rattle.script_text.specs.Script.{IsSpelled, are_line_bytes, op_fits, IsScript}
 use Rattle.script_text.specs.Lines.{first_line}
 use Rattle.script_text.specs.Words.{parts_at}
 use Rattle.script_text.proofs.LineLaws.{first_again}
+use Rattle.script_text.proofs.NameLaws.{IsNameIfAny, name_spelled}
 
 -- ---- the lines of a script have a spelling
 
@@ -46,13 +48,18 @@ ops_spelled : (lines : ℕ) (ops : List Op) → lines ≤ 65536 → list_all (op
 ops_spelled lines [] most fits = tt
 ops_spelled lines (op ∷ ops) most fits = (op_spelled lines op most (and_parts _ _ fits).0, ops_spelled lines ops most (and_parts _ _ fits).1)
 
-streams_spelled : (hosts_limit lines : ℕ) (hosts : List ℕ) (streams : List (List Op)) → hosts_limit ≤ 16 → lines ≤ 65536 → list_all (λ h. nat_lt h hosts_limit) hosts ≡ true → list_all (list_all (op_fits lines)) streams ≡ true → AreSpelled (stream_lines hosts streams)
-streams_spelled hosts_limit lines [] streams few most exist fits = tt
-streams_spelled hosts_limit lines (host ∷ hosts) [] few most exist fits = tt
-streams_spelled hosts_limit lines (host ∷ hosts) (ops ∷ streams) few most exist fits =
+stream_spelled : (host : ℕ) (name : Option (List ℕ)) → host < 10 ^ 10 → IsNameIfAny name → IsSpelled (stream_line host name)
+stream_spelled host None below is = below
+stream_spelled host (Some name) below is = (below, is)
+
+streams_spelled : (names : List (ℕ × List ℕ)) (k hosts_limit lines : ℕ) (hosts : List ℕ) (streams : List (List Op)) → IsTrue (list_all (λ p. is_name p.1) names) → hosts_limit ≤ 16 → lines ≤ 65536 → list_all (λ h. nat_lt h hosts_limit) hosts ≡ true → list_all (list_all (op_fits lines)) streams ≡ true → AreSpelled (stream_lines names k hosts streams)
+streams_spelled names k hosts_limit lines [] streams spelled few most exist fits = tt
+streams_spelled names k hosts_limit lines (host ∷ hosts) [] spelled few most exist fits = tt
+streams_spelled names k hosts_limit lines (host ∷ hosts) (ops ∷ streams) spelled few most exist fits =
     let below = ltb-true host hosts_limit (and_parts _ _ exist).0 in
     let small : host < 10 ^ 10 = omega arith in
-    (small, both_spelled (map op_line ops) (stream_lines hosts streams) (ops_spelled lines ops most (and_parts _ _ fits).0) (streams_spelled hosts_limit lines hosts streams few most (and_parts _ _ exist).1 (and_parts _ _ fits).1))
+    let rest = streams_spelled names (k + 1) hosts_limit lines hosts streams spelled few most (and_parts _ _ exist).1 (and_parts _ _ fits).1 in
+    (stream_spelled host (name_of names k) small (name_spelled k names spelled), both_spelled (map op_line ops) (stream_lines names (k + 1) hosts streams) (ops_spelled lines ops most (and_parts _ _ fits).0) rest)
 
 picks_spelled : (picks : List ℕ) → list_all (λ pick. nat_le pick 65535) picks ≡ true → AreSpelled (map (λ pick. ScriptLine.Pick pick) picks)
 picks_spelled [] small = tt
@@ -60,11 +67,11 @@ picks_spelled (pick ∷ picks) small = let below = leb-true pick 65535 (and_part
 
 pub lines_spelled : (s : ScriptValue) → IsScript s → AreSpelled (body_lines s)
 lines_spelled s h =
-    let streams = stream_lines s.setup.streams s.operations in
+    let streams = stream_lines s.names 0 s.setup.streams s.operations in
     let picks = map (λ pick. ScriptLine.Pick pick) s.picks in
     both_spelled (map open_line s.opening ++ streams) picks
     (both_spelled (map open_line s.opening) streams (opens_spelled s.setup.lines s.opening h.setup.lines.1 h.opening_lines h.opening_bytes)
-    (streams_spelled s.setup.hosts s.setup.lines s.setup.streams s.operations h.setup.hosts.1 h.setup.lines.1 h.setup.stream_hosts h.operations)) (picks_spelled s.picks h.picks)
+    (streams_spelled s.names 0 s.setup.hosts s.setup.lines s.setup.streams s.operations h.names.spelled h.setup.hosts.1 h.setup.lines.1 h.setup.stream_hosts h.operations)) (picks_spelled s.picks h.picks)
 
 -- ---- the lines of a text
 

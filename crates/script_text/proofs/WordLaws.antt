@@ -1,12 +1,12 @@
 -- A word that is read is the word that is spelled so, and what is spelled so is read.
 use Rattle.std.proofs.Common.{◌≡◌, ◌⊎◌, ℕ, zero, suc, ◌+◌, ◌-◌, ◌*◌, ◌/◌, ◌%◌, ◌^◌, ◌<◌, ◌≤◌, Bool, true, false, IsTrue, cond, List, [], ◌∷◌, ◌++◌, length, get_or, take, drop, Option, Some, None, refl, sym, ap, subst, ◌∙◌, inl, inr, arith}
-use Rattle.std.specs.Prelude.{◌==◌, ◌&&◌, not, nat_lt, nat_le}
+use Rattle.std.specs.Prelude.{◌==◌, ◌&&◌, ◌||◌, not, nat_lt, nat_le}
 use Rattle.std.specs.List.{list_all, position, position_or_len}
 use Rattle.std.specs.Option.{option_map}
 use Rattle.std.specs.Fmt.{decimal, digit_glyph}
 use Rattle.std.specs.Str.{all_ascii_digits}
 use Rattle.std.specs.Str.Parse.{digits_value}
-use Rattle.std.proofs.lemmas.Bool.{and_parts, and_from, or_parts, not-true, not_from_false, ltb-false, ltb-true, le-ltb, lt-ltb, eqb-true, eqb-false, eq-eqb, ne_eqb, leb-true, le-leb, lt-leb, cases_lt, cond-true, cond-false, and_right, or_from, and_cases}
+use Rattle.std.proofs.lemmas.Bool.{and_parts, and_from, or_parts, or_cases, not-true, not_from_false, ltb-false, ltb-true, le-ltb, lt-ltb, eqb-true, eqb-false, eq-eqb, ne_eqb, leb-true, le-leb, lt-leb, cases_lt, cond-true, cond-false, and_right, or_from, and_cases}
 use Rattle.std.proofs.lemmas.List.{drop_more, take-append-drop, take_at, drop_at, get_or_at, get_or_append_left, length-append}
 use Rattle.std.proofs.lemmas.List.Quantifiers.{position-Some}
 use Rattle.std.proofs.lemmas.List.Sums.{position_or_len_is}
@@ -15,7 +15,8 @@ use Rattle.std.proofs.lemmas.Str.Parse.{digits_value_short}
 use Rattle.std.proofs.lemmas.Fmt.{decimal_digit, decimal_nonempty, length-decimal-le, first_decimal, digits_decimal, digits_value-decimal, decimal-digits_value}
 use Rattle.std.proofs.lemmas.Option.{cond_some, same_Some, none-some}
 use Rattle.script_text.specs.Spelling.{hex}
-use Rattle.script_text.specs.Words.{◌>>=◌, parts_at, are_digits, number_in, digit_in, byte_in, bytes_in, just_bytes_in}
+use Rattle.cxl_message.specs.Names.{is_name, is_name_byte}
+use Rattle.script_text.specs.Words.{◌>>=◌, parts_at, are_digits, number_in, name_in, digit_in, byte_in, bytes_in, just_bytes_in}
 use Rattle.script_text.proofs.Numbers.{own, digit_there}
 
 -- the value of a step that found one
@@ -64,6 +65,15 @@ parts_again byte front rest lacks =
     let after : drop (n + 1) bytes ≡ rest = cc in
     rw (found, take_at front (byte ∷ rest) n refl, after) refl
 
+-- a text without such a byte has no parts
+pub no_parts : (byte : ℕ) (text : List ℕ) → Lacks byte text → parts_at byte text ≡ None
+unfolding parts_at
+no_parts byte text lacks =
+    let before : (k : ℕ) → k < length text → (get_or text k 0 == byte) ≡ false = λ k below. lacks_at byte text k 0 lacks below in
+    let none : position_or_len (λ b. b == byte) text ≡ length text = position_or_len_is (λ b. b == byte) text (length text) 0 (omega arith) before (λ below. absurd (omega arith)) in
+    let not_found : position (λ b. b == byte) text ≡ None = rw none (cond-false (nat_lt (length text) (length text)) (Some (length text)) None (le-ltb (length text) (length text) (omega arith))) in
+    rw not_found refl
+
 -- ---- numbers
 
 pub number_take : (word : List ℕ) (n : ℕ) → number_in word ≡ Some n → (word ≡ decimal n) × (n < 10 ^ 10)
@@ -111,6 +121,36 @@ digits_lack byte (d ∷ word) low digits =
 
 pub decimal_lacks : (byte n : ℕ) → byte < 48 → n < 10 ^ 10 → Lacks byte (decimal n)
 decimal_lacks byte n low below = digits_lack byte (decimal n) low (decimal_digits n (omega arith))
+
+-- ---- names
+
+pub name_again : (name : List ℕ) → IsTrue (is_name name) → name_in name ≡ Some name
+name_again name is = cond-true (is_name name) _ _ is
+
+pub name_take : (word name : List ℕ) → name_in word ≡ Some name → (word ≡ name) × IsTrue (is_name name)
+name_take word name e =
+    let found = cond_some (is_name word) word name e in
+    (found.1, subst (λ (x : List ℕ). IsTrue (is_name x)) found.1 found.0)
+
+-- a byte of a name is no byte below the digits
+letter_above : (byte : ℕ) → is_name_byte byte ≡ true → 48 ≤ byte
+letter_above byte is = elim (or_cases (nat_le 97 byte && nat_le byte 122) ((nat_le 48 byte && nat_le byte 57) || byte == 95) is) [
+  | inl letter ↦ let least = leb-true 97 byte (and_parts (nat_le 97 byte) (nat_le byte 122) letter).0 in omega arith
+  | inr other ↦ elim (or_cases (nat_le 48 byte && nat_le byte 57) (byte == 95) other) [
+    | inl digit ↦ leb-true 48 byte (and_parts (nat_le 48 byte) (nat_le byte 57) digit).0
+    | inr underscore ↦ let same = eqb-true byte 95 underscore in omega arith
+  ]
+]
+
+letters_lack : (byte : ℕ) (name : List ℕ) → byte < 48 → list_all is_name_byte name ≡ true → Lacks byte name
+letters_lack byte [] low are = refl
+letters_lack byte (b ∷ name) low are =
+    let parts = and_parts _ _ are in
+    let above = letter_above b parts.0 in
+    and_from _ _ (not_from_false _ (ne_eqb b byte (λ e. omega arith))) (letters_lack byte name low parts.1)
+
+pub name_lacks : (byte : ℕ) (name : List ℕ) → byte < 48 → IsTrue (is_name name) → Lacks byte name
+name_lacks byte name low is = letters_lack byte name low (and_parts _ _ is).1
 
 -- ---- bytes
 

@@ -9,7 +9,7 @@ use Rattle.script_text.specs.Refusals.{IfBad, line_refusal, with_line}
 
 -- the script of the lines that were read
 abbrev pub script_of : Draft → ScriptValue
-script_of d = record { setup = d.setup; names = []; room = d.room; opening = d.opening; operations = map (λ ops. ops.items) d.operations.items; picks = d.picks.items }
+script_of d = record { setup = d.setup; names = d.names; room = d.room; opening = d.opening; operations = map (λ ops. ops.items) d.operations.items; picks = d.picks.items }
 
 -- the draft knows how many operations it has
 abbrev pub IsCounted : Draft → Type 0

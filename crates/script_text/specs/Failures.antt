@@ -7,8 +7,8 @@ use Rattle.script_text.specs.declared.refusals.ScriptReason.{ScriptReason}
 use Rattle.script_text.specs.Refusals.{line_refusal}
 use Rattle.script_text.specs.Script.{IsScript, IsSpelled}
 use Rattle.script_text.specs.Spelling.{body_lines, line_bytes, script_bytes, setting}
-use Rattle.cxl_message.specs.declared.limits.TheConstants.{MAX_CREDITS, MAX_ENTRIES, MAX_HOSTS, MAX_LINES, MAX_WAYS, MIN_CREDITS, MIN_TAGS}
-use Rattle.script_text.specs.declared.limits.TheConstants.{MAX_ROOM, MAX_SCRIPT_TAGS}
+use Rattle.cxl_message.specs.declared.limits.TheConstants.{MAX_CREDITS, MAX_ENTRIES, MAX_HOSTS, MAX_LINES, MAX_TAGS, MAX_WAYS, MIN_CREDITS, MIN_TAGS}
+use Rattle.script_text.specs.declared.limits.TheConstants.{MAX_ROOM}
 
 -- a line that a script begins with: its word, and the limits of its number
 pub record HeadForm : Type 0 where
@@ -24,7 +24,7 @@ form_of word least most = record { word = word; least = least; most = most }
 abbrev pub head_forms : List HeadForm
 head_forms =
     form_of (codes "hosts") 1 MAX_HOSTS ∷ form_of (codes "lines") 1 MAX_LINES ∷ form_of (codes "filter") 1 MAX_ENTRIES ∷ form_of (codes "ways") 1 MAX_WAYS
-    ∷ form_of (codes "tags") MIN_TAGS MAX_SCRIPT_TAGS ∷ form_of (codes "credits") MIN_CREDITS MAX_CREDITS ∷ form_of (codes "room") 1 MAX_ROOM ∷ []
+    ∷ form_of (codes "tags") MIN_TAGS MAX_TAGS ∷ form_of (codes "credits") MIN_CREDITS MAX_CREDITS ∷ form_of (codes "room") 1 MAX_ROOM ∷ []
 
 -- where one of the seven is to stand, the text fails for this reason: it ends; it doesn't begin with such a line; the number is outside its limits
 abbrev pub HeadFailure : HeadForm → List ℕ → ScriptReason → Type 0

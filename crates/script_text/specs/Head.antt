@@ -6,8 +6,8 @@ use Rattle.cxl_message.specs.Setup.{Configuration, is_within}
 use Rattle.script_text.specs.declared.refusals.ScriptReason.{ScriptReason}
 use Rattle.script_text.specs.declared.refusals.ScriptRefusal.{ScriptRefusal}
 use Rattle.script_text.specs.Words.{parts_at, number_in}
-use Rattle.cxl_message.specs.declared.limits.TheConstants.{MAX_CREDITS, MAX_ENTRIES, MAX_HOSTS, MAX_LINES, MAX_WAYS, MIN_CREDITS, MIN_TAGS}
-use Rattle.script_text.specs.declared.limits.TheConstants.{MAX_ROOM, MAX_SCRIPT_TAGS}
+use Rattle.cxl_message.specs.declared.limits.TheConstants.{MAX_CREDITS, MAX_ENTRIES, MAX_HOSTS, MAX_LINES, MAX_TAGS, MAX_WAYS, MIN_CREDITS, MIN_TAGS}
+use Rattle.script_text.specs.declared.limits.TheConstants.{MAX_ROOM}
 
 infixl 10 ◌>>=◌
 abbrev pub ◌>>=◌ : {A B : Type 0} → Result A ScriptRefusal → (A → Result B ScriptRefusal) → Result B ScriptRefusal
@@ -43,7 +43,7 @@ head_at text = do
   lines ← number_at 2 (codes "lines") 1 MAX_LINES hosts.1
   entries ← number_at 3 (codes "filter") 1 MAX_ENTRIES lines.1
   ways ← number_at 4 (codes "ways") 1 MAX_WAYS entries.1
-  tags ← number_at 5 (codes "tags") MIN_TAGS MAX_SCRIPT_TAGS ways.1
+  tags ← number_at 5 (codes "tags") MIN_TAGS MAX_TAGS ways.1
   credits ← number_at 6 (codes "credits") MIN_CREDITS MAX_CREDITS tags.1
   room ← number_at 7 (codes "room") 1 MAX_ROOM credits.1
   Ok (without_streams hosts.0 lines.0 entries.0 ways.0 tags.0 credits.0, room.0, room.1)

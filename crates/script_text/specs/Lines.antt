@@ -4,7 +4,7 @@ use Rattle.std.specs.Str.{bytes_eq}
 use Rattle.std.specs.Int.{w64, from_be_bytes}
 use Rattle.cxl_message.specs.declared.identifiers.Bytes64.{Bytes64}
 use Rattle.script_text.specs.declared.lines.ScriptLine.{ScriptLine}
-use Rattle.script_text.specs.Words.{◌>>=◌, parts_at, number_in, just_bytes_in}
+use Rattle.script_text.specs.Words.{◌>>=◌, parts_at, number_in, name_in, just_bytes_in}
 
 -- a number and 64 bytes
 unfoldable pub line_and_bytes_in : List ℕ → Option (ℕ × Bytes64)
@@ -24,11 +24,27 @@ word_in text = do
   bytes ← just_bytes_in 8 words.1
   Some (ScriptLine.Word line place (from_be_bytes w64 bytes))
 
+-- a host and a name, from their words
+abbrev pub named_stream_in : List ℕ → List ℕ → Option ScriptLine
+named_stream_in first second = do
+  host ← number_in first
+  name ← name_in second
+  Some (ScriptLine.NamedStream host (record { items = name }))
+
+-- a host alone, where the text is one word, and else a host and a name
+abbrev pub stream_of_parts : List ℕ → Option (List ℕ × List ℕ) → Option ScriptLine
+stream_of_parts text None = number_in text >>= λ host. Some (ScriptLine.Stream host)
+stream_of_parts text (Some parts) = named_stream_in parts.0 parts.1
+
+-- a stream's host, and its name if one follows
+unfoldable pub stream_in : List ℕ → Option ScriptLine
+stream_in text = stream_of_parts text (parts_at 32 text)
+
 -- what follows a line's first word
 unfoldable pub line_of_word : List ℕ → List ℕ → Option ScriptLine
 line_of_word word text =
     if bytes_eq word (codes "open") then (line_and_bytes_in text >>= λ pair. Some (ScriptLine.Open pair.0 pair.1))
-    else (if bytes_eq word (codes "stream") then (number_in text >>= λ host. Some (ScriptLine.Stream host))
+    else (if bytes_eq word (codes "stream") then stream_in text
     else (if bytes_eq word (codes "load") then (number_in text >>= λ line. Some (ScriptLine.Load line))
     else (if bytes_eq word (codes "word") then word_in text
     else (if bytes_eq word (codes "whole") then (line_and_bytes_in text >>= λ pair. Some (ScriptLine.Whole pair.0 pair.1))

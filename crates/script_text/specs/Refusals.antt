@@ -36,16 +36,21 @@ op_refusal s fits =
     else (if not fits then Some ScriptReason.Range
     else (if not (nat_lt (operation_count s.operations) MAX_OPERATIONS) then Some ScriptReason.Many else None))
 
+-- why a stream's line is refused after a script's lines, if it is
+abbrev pub stream_refusal : ScriptValue → ℕ → Option ScriptReason
+stream_refusal s host =
+    if not (length s.picks == 0) then Some ScriptReason.Spelling
+    else (if not (nat_lt host s.setup.hosts) then Some ScriptReason.Range
+    else (if not (nat_lt (length s.setup.streams) MAX_STREAMS) then Some ScriptReason.Many else None))
+
 -- why a line is refused after a script's lines, if it is: the first of spelling, range, order and many
 abbrev pub line_refusal : ScriptValue → ScriptLine → Option ScriptReason
 line_refusal s (ScriptLine.Open line bytes) =
     if not (takes_openings s) then Some ScriptReason.Spelling
     else (if not (nat_lt line s.setup.lines) then Some ScriptReason.Range
     else (if not (is_after_last s.opening line && not (bytes_eq bytes zero_bytes)) then Some ScriptReason.Order else None))
-line_refusal s (ScriptLine.Stream host) =
-    if not (length s.picks == 0) then Some ScriptReason.Spelling
-    else (if not (nat_lt host s.setup.hosts) then Some ScriptReason.Range
-    else (if not (nat_lt (length s.setup.streams) MAX_STREAMS) then Some ScriptReason.Many else None))
+line_refusal s (ScriptLine.Stream host) = stream_refusal s host
+line_refusal s (ScriptLine.NamedStream host name) = stream_refusal s host
 line_refusal s (ScriptLine.Load line) = op_refusal s (nat_lt line s.setup.lines)
 line_refusal s (ScriptLine.Word line place value) = op_refusal s (nat_lt line s.setup.lines && nat_lt place PLACES)
 line_refusal s (ScriptLine.Whole line bytes) = op_refusal s (nat_lt line s.setup.lines)
@@ -57,10 +62,15 @@ with_op [] op = []
 with_op (ops ∷ []) op = (ops ++ op ∷ []) ∷ []
 with_op (ops ∷ next ∷ more) op = ops ∷ with_op (next ∷ more) op
 
--- the script with this line after its own
+-- the script with a stream more, which has no operations, and with these names
+abbrev pub with_stream : ScriptValue → ℕ → List (ℕ × List ℕ) → ScriptValue
+with_stream s host names = record s { setup = record s.setup { streams = s.setup.streams ++ host ∷ [] }; names = names; operations = s.operations ++ [] ∷ [] }
+
+-- the script with this line after its own; a name is that of the line's stream
 abbrev pub with_line : ScriptValue → ScriptLine → ScriptValue
 with_line s (ScriptLine.Open line bytes) = record s { opening = s.opening ++ (record { 0 = line }, bytes) ∷ [] }
-with_line s (ScriptLine.Stream host) = record s { setup = record s.setup { streams = s.setup.streams ++ host ∷ [] }; operations = s.operations ++ [] ∷ [] }
+with_line s (ScriptLine.Stream host) = with_stream s host s.names
+with_line s (ScriptLine.NamedStream host name) = with_stream s host (s.names ++ (length s.setup.streams, name.items) ∷ [])
 with_line s (ScriptLine.Load line) = record s { operations = with_op s.operations (Op.Load (record { 0 = line })) }
 with_line s (ScriptLine.Word line place value) = record s { operations = with_op s.operations (Op.Word (record { 0 = line }) place value) }
 with_line s (ScriptLine.Whole line bytes) = record s { operations = with_op s.operations (Op.Whole (record { 0 = line }) bytes) }

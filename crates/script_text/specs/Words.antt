@@ -4,6 +4,7 @@ use Rattle.std.specs.List.{position}
 use Rattle.std.specs.Option.{option_map, option_and_then}
 use Rattle.std.specs.Str.{all_ascii_digits}
 use Rattle.std.specs.Str.Parse.{digits_value}
+use Rattle.cxl_message.specs.Names.{is_name}
 
 infixl 10 ◌>>=◌
 abbrev pub ◌>>=◌ : {A B : Type 0} → Option A → (A → Option B) → Option B
@@ -21,6 +22,10 @@ are_digits word =
 -- the number that a word is
 unfoldable pub number_in : List ℕ → Option ℕ
 number_in word = if are_digits word then Some (digits_value 10 word) else None
+
+-- the name that a word is
+abbrev pub name_in : List ℕ → Option (List ℕ)
+name_in word = if is_name word then Some word else None
 
 -- the value of a hexadecimal digit in lower case
 unfoldable pub digit_in : ℕ → Option ℕ

@@ -8,7 +8,7 @@ use crate::drafts::Draft;
 use crate::draws::Draws;
 use crate::limits::MAX_ROOM;
 use crate::scripts::Script;
-use cxl_message::{MAX_STREAMS, Op, Opening, Setup};
+use cxl_message::{MAX_STREAMS, Names, Op, Opening, Setup};
 use std::alloc::{AllocError, Global};
 
 /// The host of each stream: four streams for each of sixteen hosts.
@@ -19,7 +19,7 @@ const HOSTS: [u8; 64] = [
 ];
 
 /// A large script that a seed makes (own rule): so many operations, at most 65,536, of 64 streams on 16 hosts, over 64 lines
-/// with 32 filter entries and 4 ways, and eight picks for each operation. Equal numbers make equal scripts. `Err` is want of
+/// with 32 filter entries and 4 ways, and eight picks for each operation. No stream has a name. Equal numbers make equal scripts. `Err` is want of
 /// memory.
 pub fn generate(alloc: Global, count: u32, seed: u64) -> Result<Script, AllocError>
     requires few { count ≤ MAX_OPERATIONS }
@@ -30,6 +30,7 @@ pub fn generate(alloc: Global, count: u32, seed: u64) -> Result<Script, AllocErr
     let picks = draw_picks(alloc, 8 * count, &mut draws)?;
     Ok(Script::new(Draft {
         setup: large_machine(),
+        names: Names::new(alloc),
         room: MAX_ROOM,
         opening: Opening::new(alloc),
         operations,

@@ -5,11 +5,12 @@ ghost use Rattle.script_text.specs.Head.{number_behind, setting_in, number_at, h
 ghost use Rattle.script_text.specs.Refusals.{Gives};
 ghost use Rattle.script_text.specs.declared.limits.TheConstants.{MAX_ROOM};
 
-use crate::limits::{MAX_ROOM, MAX_SCRIPT_TAGS};
+use crate::limits::MAX_ROOM;
 use crate::refusals::{ScriptReason, ScriptRefusal};
 use crate::words::{cut_at, number_of};
 use cxl_message::{
-    MAX_CREDITS, MAX_ENTRIES, MAX_HOSTS, MAX_LINES, MAX_WAYS, MIN_CREDITS, MIN_TAGS, Setup,
+    MAX_CREDITS, MAX_ENTRIES, MAX_HOSTS, MAX_LINES, MAX_TAGS, MAX_WAYS, MIN_CREDITS, MIN_TAGS,
+    Setup,
 };
 
 /// The setup without streams and the room of the seven lines, and the text after them.
@@ -22,13 +23,7 @@ pub fn head_of(text: &[u8]) -> Result<(Setup, u32, &[u8]), ScriptRefusal>
     let (lines, text) = number_line(text, 2, b"lines", 1, u64::from(MAX_LINES))?;
     let (entries, text) = number_line(text, 3, b"filter", 1, u64::from(MAX_ENTRIES))?;
     let (ways, text) = number_line(text, 4, b"ways", 1, u64::from(MAX_WAYS))?;
-    let (tags, text) = number_line(
-        text,
-        5,
-        b"tags",
-        u64::from(MIN_TAGS),
-        u64::from(MAX_SCRIPT_TAGS),
-    )?;
+    let (tags, text) = number_line(text, 5, b"tags", u64::from(MIN_TAGS), u64::from(MAX_TAGS))?;
     let (credits, text) = number_line(
         text,
         6,

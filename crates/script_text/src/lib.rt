@@ -1,4 +1,4 @@
-//! Scripts as text: a machine, what its memory holds at first, and what its streams do. A text that `parse_script` takes
+//! Scripts as text: a machine, the names of its streams, what its memory holds at first, and what its streams do. A text that `parse_script` takes
 //! spells that script and no other; one that it refuses spells none, and fails first at the line and for the reason that it
 //! answers. `generate` makes a large script of a seed.
 //!
@@ -20,7 +20,7 @@ mod words;
 
 pub use generating::generate;
 pub use laws::{failures_are_alone, texts_spell_one_script};
-pub use limits::{MAX_OPERATIONS, MAX_PICK, MAX_ROOM, MAX_SCRIPT_TAGS};
+pub use limits::{MAX_OPERATIONS, MAX_PICK, MAX_ROOM};
 pub use parsing::parse_script;
 pub use printing::print_script;
 pub use refusals::{ScriptReason, ScriptRefusal};

@@ -1,7 +1,5 @@
 //! The limits of a script's numbers that no setup has: each stands here alone (own rule).
 
-/// A script may ask for 2 to this many tags.
-pub const MAX_SCRIPT_TAGS: u16 = 64;
 /// A script asks for room for 1 to this many events.
 pub const MAX_ROOM: u32 = 200_000;
 /// The streams of a script have at most this many operations together.

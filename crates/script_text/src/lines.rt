@@ -1,16 +1,18 @@
 // The lines after the seventh.
 ghost use Rattle.std.specs.Option.{option_map};
 ghost use Rattle.std.specs.Prelude.{◌≡◌};
-ghost use Rattle.script_text.specs.Lines.{line_and_bytes_in, word_in, line_of_word, line_in, first_line};
+ghost use Rattle.script_text.specs.Lines.{line_and_bytes_in, word_in, named_stream_in, stream_in, line_of_word, line_in, first_line};
 
-use crate::words::{bytes_of, cut_at, number_of};
+use crate::words::{bytes_of, cut_at, name_of, number_of};
+use arrayvec::ArrayVec;
 use cxl_message::Bytes64;
 
 /// A line as it is spelled: each number has up to ten digits, and needn't be within its limits.
-#[derive(Clone, Copy, PartialEq, Eq, Debug)]
+#[derive(Drop)]
 pub enum ScriptLine {
     Open { line: u64, bytes: Bytes64 },
     Stream { host: u64 },
+    NamedStream { host: u64, name: ArrayVec<u8, 32> },
     Load { line: u64 },
     Word { line: u64, place: u64, value: u64 },
     Whole { line: u64, bytes: Bytes64 },
@@ -45,8 +47,7 @@ fn parse_after(word: &[u8], text: &[u8]) -> Option<ScriptLine>
         return Some(ScriptLine::Open { line, bytes });
     }
     if word == b"stream".as_slice() {
-        let host = number_of(text)?;
-        return Some(ScriptLine::Stream { host });
+        return parse_stream(text);
     }
     if word == b"load".as_slice() {
         let line = number_of(text)?;
@@ -73,6 +74,28 @@ fn line_and_bytes(text: &[u8]) -> Option<(u64, Bytes64)>
 {
     let (line, word) = cut_at(text, b' ')?;
     Some((number_of(line)?, Bytes64(bytes_of(word)?)))
+}
+
+/// What follows `stream`: a host, and a name if there is a second word.
+#[tactic(auto, unfolding(crate::specs::Lines::stream_in))]
+fn parse_stream(text: &[u8]) -> Option<ScriptLine>
+    ensures { result ≡ stream_in text.now }
+{
+    match cut_at(text, b' ') {
+        Some((host, name)) => named_stream(host, name),
+        None => Some(ScriptLine::Stream {
+            host: number_of(text)?,
+        }),
+    }
+}
+
+/// The stream of a host and a name.
+fn named_stream(host: &[u8], name: &[u8]) -> Option<ScriptLine>
+    ensures { result ≡ named_stream_in host.now name.now }
+{
+    let host = number_of(host)?;
+    let name = name_of(name)?;
+    Some(ScriptLine::NamedStream { host, name })
 }
 
 /// What follows `word`: a line's number, a place and a value.

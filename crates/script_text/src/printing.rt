@@ -3,7 +3,8 @@ ghost use Rattle.std.specs.Prelude.{◌≡◌, ◌++◌, ◌∷◌, ◌<◌, ◌
 ghost use Rattle.std.specs.Fmt.{decimal, digit_glyph};
 ghost use Rattle.std.specs.Int.{to_be_bytes, w64};
 ghost use Rattle.std.specs.List.{flat_map};
-ghost use Rattle.script_text.specs.Spelling.{head_bytes, hex, hex_byte, line_bytes, open_line, op_line, script_bytes, setting, stream_lines};
+ghost use Rattle.std.specs.Option.{option_map};
+ghost use Rattle.script_text.specs.Spelling.{head_bytes, hex, hex_byte, line_bytes, open_line, op_line, script_bytes, setting, stream_line, stream_lines};
 
 use crate::lines::ScriptLine;
 use crate::scripts::Script;
@@ -49,15 +50,29 @@ fn put_openings(out: &mut Vec<u8>, script: &Script) -> Result<(), AllocError>
     Ok(())
 }
 
-/// Appends the lines of the streams: each one's host, then its operations.
+/// Appends the lines of the streams: each one's host and name, then its operations.
 fn put_streams(out: &mut Vec<u8>, script: &Script) -> Result<(), AllocError>
-    ensures { OnOk result (out.new.items ≡ out.old.items ++ flat_map line_bytes (stream_lines script.now.setup.streams script.now.operations)) }
+    ensures { OnOk result (out.new.items ≡ out.old.items ++ flat_map line_bytes (stream_lines script.now.names 0 script.now.setup.streams script.now.operations)) }
 {
     let hosts = script.setup().streams();
+    let names = script.names();
     for stream in 0..hosts.len() {
-        put_setting(out, b"stream", u32::from(hosts[stream]))?;
+        put_stream(out, hosts[stream], names.name(stream as u8))?;
         put_operations(out, script.ops(stream as u8))?;
     }
+    Ok(())
+}
+
+/// Appends the line of a stream: its host, and its name if it has one.
+fn put_stream(out: &mut Vec<u8>, host: u8, name: Option<&[u8]>) -> Result<(), AllocError>
+    ensures { OnOk result (out.new.items ≡ out.old.items ++ line_bytes (stream_line host (option_map (λ name. name.now) name.entry))) }
+{
+    put_named(out, b"stream", u32::from(host))?;
+    if let Some(name) = name {
+        out.push(b' ')?;
+        out.extend_from_slice(name)?;
+    }
+    out.push(b'\n')?;
     Ok(())
 }
 

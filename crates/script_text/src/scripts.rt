@@ -2,10 +2,10 @@
 ghost use Rattle.std.specs.Prelude.{◌≡◌, ◌<◌, Some, length, slice_get};
 
 use crate::drafts::Draft;
-use cxl_message::{Op, Opening, Setup};
+use cxl_message::{Names, Op, Opening, Setup};
 use std::marker::Model;
 
-/// A machine, what its memory holds at first, what its streams do and the picks of a schedule (own rule).
+/// A machine, the names of its streams, what its memory holds at first, what its streams do and the picks of a schedule (own rule).
 #[derive(Drop)]
 pub struct Script {
     draft: Draft,
@@ -42,6 +42,14 @@ impl Script {
         ensures script { IsScript self.now }
     {
         &self.draft.setup
+    }
+
+    /// The names of streams, each of a stream of the setup.
+    pub fn names(&self) -> &Names
+        ensures names { result.now ≡ self.now.names }
+        ensures script { IsScript self.now }
+    {
+        &self.draft.names
     }
 
     /// How many events each agent's journal has room for: 1 to 200,000.

@@ -1,11 +1,14 @@
-// The words of a line: numbers and hexadecimal digits.
+// The words of a line: numbers, names and hexadecimal digits.
 ghost use Rattle.std.specs.Char.{is_ascii_digit};
 ghost use Rattle.std.specs.List.{list_all, position};
 ghost use Rattle.std.specs.Option.{option_map};
 ghost use Rattle.std.specs.Prelude.{◌≡◌, ◌≤◌, ◌<◌, ◌^◌, ◌==◌, IsTrue, IfSome, length};
 ghost use Rattle.std.specs.Str.{all_ascii_digits};
 ghost use Rattle.std.specs.Str.Parse.{digits_value};
-ghost use Rattle.script_text.specs.Words.{parts_at, are_digits, number_in, digit_in, byte_in, just_bytes_in};
+ghost use Rattle.script_text.specs.Words.{parts_at, are_digits, number_in, name_in, digit_in, byte_in, just_bytes_in};
+
+use arrayvec::ArrayVec;
+use cxl_message::is_name;
 
 /// The bytes before the first one that is `byte`, and those after it.
 #[tactic(auto, unfolding(crate::specs::Words::parts_at))]
@@ -70,6 +73,18 @@ fn value_of(digits: &[u8]) -> u64
         value = 10 * value + u64::from(*digit - b'0');
     }
     value
+}
+
+/// The name that a word is, if it is spelled as one.
+pub fn name_of(word: &[u8]) -> Option<ArrayVec<u8, 32>>
+    ensures { option_map (λ name. name.items) result ≡ name_in word.now }
+{
+    if !is_name(word) {
+        return None;
+    }
+    let mut name = ArrayVec::new();
+    let _fits = name.try_extend_from_slice(word);
+    Some(name)
 }
 
 /// The bytes that a word of hexadecimal digits in lower case spells, each by two digits.

@@ -1,4 +1,4 @@
-use Rattle.std.proofs.Common.{ℕ, suc, ◌≡◌, ◌+◌, ◌%◌, ◌<◌, ◌∙◌, List, ap, arith, length, map}
+use Rattle.std.proofs.Common.{ℕ, suc, ◌≡◌, ◌+◌, ◌%◌, ◌<◌, ◌∙◌, ap, arith, length, map}
 use Rattle.std.proofs.lemmas.List.{length-set}
 use Rattle.cxl_message.specs.declared.events.Op.{Op}
 use Rattle.script_text.specs.Generator.{drawn_operation, drawn_operations, with_operation}

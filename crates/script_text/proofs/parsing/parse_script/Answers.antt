@@ -5,6 +5,7 @@ use Rattle.std.proofs.lemmas.Result.{err_from_is_err_and}
 use Rattle.cxl_message.specs.Script.{ScriptValue}
 use Rattle.script_text.specs.Drafts.{script_of}
 use Rattle.script_text.specs.Spelling.{script_bytes}
+use Rattle.script_text.proofs.LineLaws.{first_take}
 use Rattle.script_text.proofs.Readings.{Reads, reads_start, reads_more, reads_end, reads_only, shorter, left_within, stops_in_head, stops_at_none, stops_at_refused, bad_since}
 use Rattle.script_text.proofs.Failing.{fails_at_none, fails_at_refused, fails_in_head, first_place, next_place}
 use Rattle.script_text.proofs.parsing.parse_script.Goals as goal
@@ -21,6 +22,9 @@ loop-rest-init c =
     let reads : Reads c.args.bytes.now (script_of c.new-draft.result) c.in-Ok.head.2.now = subst (λ (d : ScriptValue). Reads c.args.bytes.now d c.in-Ok.head.2.now) (sym c.new-draft.ensures.script) start in
     record { reads = reads; counted = c.new-draft.ensures.counted; place = first_place (script_of c.new-draft.result) _ _ c.new-draft.ensures.script; room = omega (arith, left_within _ _ _ reads) }
 
+pub add-requires-clause-spelled : goal.add-requires-clause-spelled
+add-requires-clause-spelled c = (first_take c.loop-rest.rest.now (c.in-Some.found.0, c.in-Some.found.1.now) (sym c.in-Some.ensures)).1
+
 pub loop-rest-preserved : goal.loop-rest-preserved
 loop-rest-preserved c =
     let line = c.in-Some.found.0 in
@@ -31,7 +35,7 @@ loop-rest-preserved c =
     record {
       reads = subst (λ (d : ScriptValue). Reads c.args.bytes.now d after) (sym added.script) now;
       counted = added.counted;
-      place = next_place (script_of c.loop-rest.draft) _ c.loop-rest.number line c.loop-rest.invariant.reads.script.streams added.allowed added.script c.loop-rest.invariant.place;
+      place = next_place (script_of c.loop-rest.draft) _ c.loop-rest.number line c.loop-rest.invariant.reads.script added.allowed added.script c.loop-rest.invariant.place;
       room = omega (arith, c.loop-rest.invariant.room, shorter c.loop-rest.rest.now line after first);
     }
 
