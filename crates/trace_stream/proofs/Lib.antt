@@ -1,7 +1,7 @@
 pub mod Putting
 pub mod Costs
 pub mod Lengths
-pub mod OpeningBytes
+pub mod RecordLists
 pub mod Heads
 pub mod Lifting
 pub mod KindsLifted

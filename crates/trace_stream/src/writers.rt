@@ -2,20 +2,22 @@
 ghost use Rattle.std.specs.Prelude.{◌≡◌, ◌∷◌, ◌+◌, ◌^◌, ◌<◌, [], length, IsTrue, IsOk, OnOk, OnErr, IfOk};
 ghost use Rattle.cxl_message.specs.Formed.{well_formed as is_well_formed};
 ghost use Rattle.cxl_message.specs.Opening.{opening_fits};
-ghost use Rattle.cxl_codec.specs.VersionOne.{fits_version_one, setup_fits_version_one};
+ghost use Rattle.cxl_codec.specs.Versions.{event_fits, setup_fits};
 ghost use Rattle.trace_stream.specs.Buffers.{Keeps, full, reach};
-ghost use Rattle.trace_stream.specs.Writing.{BreaksOff, Ends, EndsShort, GoesOn, HasBegun, IsNew, WritesFrontOf, begin_cost, end_cost, event_cost, new_writing};
+ghost use Rattle.trace_stream.specs.Runs.{NamesFit};
+ghost use Rattle.trace_stream.specs.Writing.{BreaksOff, Ends, EndsShort, GoesOn, HasBegunIn, IsUnused, WritesFrontOf, begin_cost_in, end_cost, event_cost, new_writing, new_writing_in};
 
 use crate::buffers::Buffered;
 use crate::progress::Progress;
 use crate::refusals::TraceWriteRefusal;
-use cxl_message::{Event, Opening, Setup};
+use cxl_codec::Version;
+use cxl_message::{Event, Names, Opening, Setup};
 use event_room::EventRoom;
 use outside_io::Sink;
 use std::alloc::{AllocError, Global};
 use std::marker::Model;
 
-/// A writer of one trace to a sink: the header and the openings, the events, one by one, and the end record. It keeps
+/// A writer of one trace to a sink: the header, the names and the openings, the events, one by one, and the end record. It keeps
 /// bytes back until some 64 KiB wait or the trace ends (own rule).
 ///
 /// A contract sees what has gone to the sink, what waits for it, how far the trace is and the number of its events.
@@ -26,19 +28,23 @@ pub struct TraceWriter<'a, K: Sink> {
     out: Buffered<'a, K>,
     progress: Progress,
     count: u64,
+    version: Version,
+    names: Option<&'a Names>,
 }
 
 impl<'a, K: Sink> Model for TraceWriter<'a, K> {
+    ghost use Rattle.std.specs.Prelude.{[]};
+    ghost use Rattle.std.specs.Option.{option_map_or};
     ghost use Rattle.trace_stream.specs.Writing.{Writing};
 
     ghost Value = { Writing };
 
-    ghost view = { λ w. record { out = w.out; progress = w.progress; count = w.count } };
+    ghost view = { λ w. record { out = w.out; progress = w.progress; count = w.count; version = w.version; names = option_map_or (λ n. n.now) w.names [] } };
 }
 
 impl<'a, K: Sink> TraceWriter<'a, K> {
-    /// A writer to this sink. It writes nothing yet and takes no memory, so it is never refused (own rule): `begin` is
-    /// the first call that asks for memory.
+    /// A writer of version 1 to this sink, with no names. It writes nothing yet and takes no memory, so it is never refused
+    /// (own rule): `begin` is the first call that asks for memory.
     pub fn new(alloc: Global, sink: &'a mut K) -> Result<TraceWriter<'a, K>, AllocError>
         ensures never_refused { IsOk result }
         ensures new { IfOk result (λ writer. writer ≡ new_writing sink.entry.ghost_name (K.gone sink.old) (K.faults sink.old) (K.highest_count sink.old)) }
@@ -47,47 +53,73 @@ impl<'a, K: Sink> TraceWriter<'a, K> {
             out: Buffered::new(alloc, sink),
             progress: Progress::New,
             count: 0,
+            version: Version::One,
+            names: None,
         })
     }
 
-    /// Begins a trace: the header of a setup of at most 64 tags, and the openings, which name only lines of the setup. It
-    /// comes first, and once, and asks for the memory in which bytes wait. A refusal leaves the first bytes of the trace in the sink, none
-    /// where that memory is refused, and ends the use of the writer.
-    pub fn begin(&mut self, setup: &Setup, opening: &Opening) -> Result<(), TraceWriteRefusal>
-        requires new { IsNew self.old }
-        requires version_one { IsTrue (setup_fits_version_one setup.now) }
-        requires lines { IsTrue (opening_fits setup.now.lines opening.now) }
-        requires counts { reach self.old.out + begin_cost opening.now < 2 ^ 63 }
+    /// A writer of a version to this sink, with the names of streams, which `begin` writes. It is never refused, as `new`
+    /// isn't (own rule).
+    pub fn named(
+        alloc: Global,
+        sink: &'a mut K,
+        version: Version,
+        names: &'a Names,
+    ) -> Result<TraceWriter<'a, K>, AllocError>
+        ensures never_refused { IsOk result }
+        ensures new { IfOk result (λ writer. writer ≡ new_writing_in version names.now sink.entry.ghost_name (K.gone sink.old) (K.faults sink.old) (K.highest_count sink.old)) }
+    {
+        Ok(TraceWriter {
+            out: Buffered::new(alloc, sink),
+            progress: Progress::New,
+            count: 0,
+            version,
+            names: Some(names),
+        })
+    }
 
-        ensures begun { OnOk result (HasBegun self.old.out.gone self.new setup.now opening.now []) }
+    /// Begins a trace: the header of a setup whose number of tags the version has room for, the names, and the openings,
+    /// which name only lines of the setup. In version 1 there are no names, and in version 2 each named stream is one of
+    /// the setup's. It comes first, and once, and asks for the memory in which bytes wait. A refusal leaves the first bytes
+    /// of the trace in the sink, none where that memory is refused, and ends the use of the writer.
+    pub fn begin(&mut self, setup: &Setup, opening: &Opening) -> Result<(), TraceWriteRefusal>
+        requires unused { IsUnused self.old }
+        requires version { IsTrue (setup_fits self.old.version setup.now) }
+        requires named { NamesFit self.old.version (length setup.now.streams) self.old.names }
+        requires lines { IsTrue (opening_fits setup.now.lines opening.now) }
+        requires counts { reach self.old.out + begin_cost_in self.old.names opening.now < 2 ^ 63 }
+
+        ensures begun { OnOk result (HasBegunIn self.old.out.gone self.new self.old.version setup.now self.old.names opening.now []) }
         ensures progress { OnOk result (self.new.progress ≡ Progress.Begun) }
         ensures bounded { OnOk result (length self.new.out.waiting < full) }
-        ensures front { OnErr result (WritesFrontOf self.old.out.gone self.new.out.gone setup.now opening.now []) }
-        ensures kept { Keeps self.old.out self.new.out (begin_cost opening.now) result }
+        ensures front { OnErr result (WritesFrontOf self.old.out.gone self.new.out.gone self.old.version setup.now self.old.names opening.now []) }
+        ensures kept { Keeps self.old.out self.new.out (begin_cost_in self.old.names opening.now) result }
     {
         self.out.reserve()?;
-        self.out.put_begin(setup, opening)?;
+        self.out
+            .put_begin(self.version, setup, self.names, opening)?;
         self.progress = Progress::Begun;
         Ok(())
     }
 
-    /// Puts the next event, which is well formed and whose Tags are below 65,536. It comes after `begin`. A refusal leaves the first bytes of the trace
-    /// in the sink, and ends the use of the writer.
+    /// Puts the next event, which is well formed and whose Tags the version has room for. It comes after `begin`. A refusal
+    /// leaves the first bytes of the trace in the sink, and ends the use of the writer.
     pub fn put(&mut self, event: &Event) -> Result<(), TraceWriteRefusal>
         requires begun { self.old.progress ≡ Progress.Begun }
         requires formed { IsTrue (is_well_formed event.now) }
-        requires version_one { IsTrue (fits_version_one event.now) }
+        requires version { IsTrue (event_fits self.old.version event.now) }
         requires events { self.old.count + 1 < 2 ^ 63 }
         requires counts { reach self.old.out + event_cost < 2 ^ 63 }
 
         ensures goes_on { OnOk result (GoesOn self.old self.new (event.now ∷ [])) }
         ensures progress { OnOk result (self.new.progress ≡ Progress.Begun) }
         ensures count { OnOk result (self.new.count ≡ self.old.count + 1) }
+        ensures same_version { self.new.version ≡ self.old.version }
         ensures bounded { OnOk result (length self.new.out.waiting < full) }
         ensures front { OnErr result (BreaksOff self.old self.new (event.now ∷ [])) }
         ensures kept { Keeps self.old.out self.new.out event_cost result }
     {
-        self.out.put_event(event)?;
+        self.out.put_event(self.version, event)?;
         self.count += 1;
         Ok(())
     }
@@ -96,18 +128,19 @@ impl<'a, K: Sink> TraceWriter<'a, K> {
     pub fn put_room(&mut self, room: &EventRoom) -> Result<(), TraceWriteRefusal>
         requires begun { self.old.progress ≡ Progress.Begun }
         requires formed { IsTrue (is_well_formed room.now) }
-        requires version_one { IsTrue (fits_version_one room.now) }
+        requires version { IsTrue (event_fits self.old.version room.now) }
         requires events { self.old.count + 1 < 2 ^ 63 }
         requires counts { reach self.old.out + event_cost < 2 ^ 63 }
 
         ensures goes_on { OnOk result (GoesOn self.old self.new (room.now ∷ [])) }
         ensures progress { OnOk result (self.new.progress ≡ Progress.Begun) }
         ensures count { OnOk result (self.new.count ≡ self.old.count + 1) }
+        ensures same_version { self.new.version ≡ self.old.version }
         ensures bounded { OnOk result (length self.new.out.waiting < full) }
         ensures front { OnErr result (BreaksOff self.old self.new (room.now ∷ [])) }
         ensures kept { Keeps self.old.out self.new.out event_cost result }
     {
-        self.out.put_room(room)?;
+        self.out.put_room(self.version, room)?;
         self.count += 1;
         Ok(())
     }
@@ -141,6 +174,8 @@ impl<'a, K: Sink> TraceWriter<'a, K> {
             out,
             progress: _,
             count: _,
+            version: _,
+            names: _,
         } = self;
         out.into_sink()
     }

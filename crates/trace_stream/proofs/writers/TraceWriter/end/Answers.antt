@@ -12,11 +12,11 @@ pub returns-in_err-put_end-clause-front : goal.returns-in_err-put_end-clause-fro
 returns-in_err-put_end-clause-front g c =
     let new = c.put_end.new.self in
     let front = subst (λ (w : Writing). GathersFront w.out new (end_bytes w.count)) c.self.view_is c.in_err-put_end.ensures.front in
-    on_refusal c.from_residual.result (λ start setup opening events begun. fails_last setup opening start c.args.self.now new events begun front)
+    on_refusal c.from_residual.result (λ start version setup names opening events begun. fails_last version setup names opening start c.args.self.now new events begun front)
 
 pub returns-clause-trace : goal.returns-clause-trace
-returns-clause-trace g c start setup opening events begun =
+returns-clause-trace g c start version setup names opening events begun =
     let new = c.put_end.new.self in
     let put = subst (λ (w : Writing). Gathers w.out new (end_bytes w.count)) c.self.view_is c.in_ok-put_end.ensures.put in
     let fits = subst (λ (w : Writing). EndFits w.count) c.self.view_is c.in_ok-put_end.ensures.fits in
-    ends_at setup opening start c.args.self.now new events begun put c.in_ok-put_end.ensures.all fits
+    ends_at version setup names opening start c.args.self.now new events begun put c.in_ok-put_end.ensures.all fits
