@@ -1,10 +1,10 @@
 -- Tests over all hosts, by one of them.
 use Rattle.std.proofs.Common.{◌≡◌, ℕ, zero, suc, ◌+◌, ◌<◌, ◌≤◌, Bool, true, false, [], ◌∷◌, ◌++◌, cond, refl, ap, sym, ◌∙◌, arith}
-use Rattle.std.specs.Prelude.{count_by, sum_by, ◌||◌}
+use Rattle.std.specs.Prelude.{count_by, sum_by, ◌&&◌, ◌||◌}
 use Rattle.std.specs.Int.{from_bool}
-use Rattle.std.specs.List.{list_any, range_with_len}
+use Rattle.std.specs.List.{list_all, list_any, range_with_len}
 use Rattle.std.proofs.lemmas.Bool.{false≢true}
-use Rattle.std.proofs.lemmas.List.Folds.{list_any-append}
+use Rattle.std.proofs.lemmas.List.Folds.{list_all-append, list_any-append}
 use Rattle.std.proofs.lemmas.List.Sums.{sum_by-append, sum_by-cons}
 use Rattle.cxl_message.specs.Lists.{below}
 
@@ -41,6 +41,14 @@ below_one_more n =
 -- one host more fails a test that none before it passes
 pub none_more : (p : ℕ → Bool) (n : ℕ) → list_any p (below n) ≡ false → p n ≡ false → list_any p (below (n + 1)) ≡ false
 none_more p n before here = ap (list_any p) (below_one_more n) ∙ list_any-append p (below n) (n ∷ []) ∙ (λ i. before i || (here i || false))
+
+and_true : (b c : Bool) → c ≡ true → b ≡ b && (c && true)
+and_true false c is = refl
+and_true true c is = sym (ap (λ (d : Bool). d && true) is)
+
+-- one host more that passes a test changes nothing
+pub all_same : (p : ℕ → Bool) (n : ℕ) → p n ≡ true → list_all p (below n) ≡ list_all p (below (n + 1))
+all_same p n here = and_true (list_all p (below n)) (p n) here ∙ sym (ap (list_all p) (below_one_more n) ∙ list_all-append p (below n) (n ∷ []))
 
 one_summed : (f : ℕ → ℕ) (n : ℕ) → sum_by f (n ∷ []) ≡ f n
 one_summed f n = let e : f n + 0 ≡ f n = omega arith in sum_by-cons f n [] ∙ e

@@ -11,6 +11,7 @@ use Rattle.coherence_model.specs.Tasks.{Purpose}
 use Rattle.device_record.specs.Record.{DeviceRecord, TaskRecord, task_at}
 use Rattle.device_record.specs.Steady.{AscendFrom, IsSteady}
 use Rattle.device_acts.specs.Placed.{LiesWithin}
+use Rattle.device_acts.specs.Sections.{Stands}
 
 inner : (x y : TaskRecord) → Some x ≡ Some y → x ≡ y
 inner x y same = cc
@@ -40,6 +41,10 @@ all_within setup k steady =
     let t = get_or k.tasks i no_task in
     (steady.tasks t.first t (member_found 0 k.tasks i t steady.ascend (slice_get-get_or k.tasks i no_task low))).within
     )))
+
+-- each task stands
+pub all_stand : (setup : Configuration) (k : DeviceRecord) → IsSteady setup k → All (Stands k) k.tasks
+all_stand setup k steady = All-from_get_or (Stands k) k.tasks no_task (λ i low. member_found 0 k.tasks i (get_or k.tasks i no_task) steady.ascend (slice_get-get_or k.tasks i no_task low))
 
 -- a block has four lines at most
 pub few_lines : (s : Span) → span_len s ≤ 4

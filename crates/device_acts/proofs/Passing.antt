@@ -1,8 +1,8 @@
 -- A search that passes the acts of one member after another has passed the acts of all.
-use Rattle.std.proofs.Common.{◌≡◌, ℕ, zero, suc, ◌+◌, ◌-◌, ◌<◌, ◌≤◌, false, List, [], ◌∷◌, ◌++◌, Option, Some, None, length, get_or, take, refl, ap, sym, ◌∙◌, arith}
-use Rattle.std.specs.Prelude.{flat_map, option_map, slice_get, ◌==◌}
+use Rattle.std.proofs.Common.{◌≡◌, ℕ, zero, suc, ◌+◌, ◌-◌, ◌<◌, ◌≤◌, false, true, List, [], ◌∷◌, ◌++◌, Option, Some, None, length, get_or, take, refl, ap, sym, ◌∙◌, arith}
+use Rattle.std.specs.Prelude.{flat_map, is_some, option_map, slice_get, ◌==◌}
 use Rattle.std.specs.Option.{option_map_or}
-use Rattle.std.proofs.lemmas.Bool.{cond-false, ne_eqb}
+use Rattle.std.proofs.lemmas.Bool.{cond-false, false≢true, ne_eqb}
 use Rattle.std.proofs.lemmas.Option.{none-some}
 use Rattle.std.proofs.lemmas.List.{flat_map_more, take_more}
 use Rattle.cxl_message.specs.declared.events.Act.{Act}
@@ -41,6 +41,11 @@ searched_below f n p q r a b = joined f (below n) n p q r a b ∙ ap (λ l. sear
 pub found_stays : (act : Act) (xs : List Act) → searched xs (Search.Found act) ≡ Search.Found act
 found_stays act [] = refl
 found_stays act (x ∷ xs) = found_stays act xs
+
+-- and a search that has found its act passes nothing more
+pub stays : (xs : List Act) (s : Search) → is_some (found s) ≡ true → s ≡ searched xs s
+stays xs (Search.Skip n) is = absurd (false≢true is)
+stays xs (Search.Found act) is = sym (found_stays act xs)
 
 less_one : (n : ℕ) → suc n - 1 ≡ n
 less_one n = omega arith

@@ -1,6 +1,6 @@
 // The search for the act of a number.
-ghost use Rattle.std.specs.Prelude.{◌≡◌, ◌∷◌, [], if◌then◌else◌, option_to_list};
-ghost use Rattle.device_acts.specs.Searching.{searched, searched_act};
+ghost use Rattle.std.specs.Prelude.{◌≡◌, ◌∷◌, [], if◌then◌else◌, is_some, option_to_list};
+ghost use Rattle.device_acts.specs.Searching.{found, searched, searched_act};
 
 use cxl_message::Act;
 
@@ -11,6 +11,18 @@ pub enum Search {
     Skip(u32),
     /// It is found.
     Found(Act),
+}
+
+impl Search {
+    /// Whether it has found its act.
+    pub fn is_found(&self) -> bool
+        ensures { result ≡ is_some (found self.now) }
+    {
+        match self {
+            Search::Skip(_) => false,
+            Search::Found(_) => true,
+        }
+    }
 }
 
 /// One act more is allowed.

@@ -1,14 +1,20 @@
 -- The sections are passed one after another.
-use Rattle.std.proofs.Common.{◌∙◌, List, ap}
-use Rattle.std.specs.Prelude.{flat_map, ◌++◌}
+use Rattle.std.proofs.Common.{◌∙◌, List, ap, subst, sym}
+use Rattle.std.specs.Prelude.{All, flat_map, ◌++◌}
 use Rattle.cxl_message.specs.Lists.{below}
 use Rattle.device_record.specs.Acts.{acts_of_task, return_acts}
 use Rattle.device_record.specs.Record.{TaskRecord}
 use Rattle.device_state.specs.Agent.{AgentRecord}
 use Rattle.device_acts.specs.Searching.{searched}
-use Rattle.device_acts.specs.Sections.{serves_at, starts_at}
+use Rattle.device_acts.specs.Sections.{Stands, serves_at, starts_at}
+use Rattle.device_acts.proofs.Members.{all_stand}
 use Rattle.device_acts.proofs.Passing.{searched_after}
 use Rattle.device_acts.proofs.sections.pass_all.Goals as goal
+
+pub pass_tasks-requires-clause-stand : goal.pass_tasks-requires-clause-stand
+pass_tasks-requires-clause-stand c =
+    let d = c.args.tables.now in
+    subst (λ (ts : List TaskRecord). All (Stands d.kept) ts) (sym (c.all.ensures ∙ ap (λ (x : AgentRecord). x.kept.tasks) c.tables.view_is)) (all_stand d.setup d.kept c.requires)
 
 pub returns : goal.returns
 returns c =
