@@ -5,8 +5,7 @@ use outside_io::{CountSink, MemSink};
 use script_text::parse_script;
 use std::alloc::Global;
 use std::test::Fail;
-use step_driver::{DriveRefusal, Summary, drive, drive_within};
-use trace_stream::TraceWriter;
+use step_driver::{DriveRefusal, Summary, drive, drive_within, writer_for};
 
 /// Which of the two calls.
 #[derive(Clone, Copy, PartialEq, Eq, Debug)]
@@ -45,7 +44,7 @@ pub fn run(alloc: Global, call: Call, text: &str, failing_writes: &[u64]) -> Res
 {
     let script = parse_script(alloc, text.as_bytes())?;
     let mut sink = MemSink::new(alloc, 4000, 1, Vec::from_slice(alloc, failing_writes)?)?;
-    let mut writer = TraceWriter::new(alloc, &mut sink)?;
+    let mut writer = writer_for(alloc, &script, &mut sink);
     let answer = match call {
         Call::Drive => drive(alloc, &script, &mut writer),
         Call::DriveWithin => drive_within(alloc, &script, &mut writer),
@@ -91,7 +90,7 @@ fn each_number_of_a_summary_is_counted(rt: HostRuntime) -> Result<(), Fail> {
 fn the_summary_needs_no_sink_that_tells(rt: HostRuntime) -> Result<(), Fail> {
     let script = parse_script(rt.alloc(), ONE_LOAD.as_bytes())?;
     let mut sink = CountSink::new();
-    let mut writer = TraceWriter::new(rt.alloc(), &mut sink)?;
+    let mut writer = writer_for(rt.alloc(), &script, &mut sink);
     let answer = drive(rt.alloc(), &script, &mut writer);
     drop(writer);
     assert_eq!(rt; answer, Ok(SUMMARY_OF_ONE_LOAD));

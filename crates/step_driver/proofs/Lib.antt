@@ -8,5 +8,6 @@ pub mod Adding
 pub mod Openings
 pub mod Drivable
 pub mod ShortTags
+pub mod Rooms
 pub mod Ways
 pub mod Loops

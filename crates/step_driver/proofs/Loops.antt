@@ -7,7 +7,7 @@ use Rattle.cxl_message.specs.declared.identifiers.Bytes64.{Bytes64}
 use Rattle.cxl_message.specs.declared.identifiers.Line.{Line}
 use Rattle.cxl_message.specs.Script.{ScriptValue}
 use Rattle.cxl_message.specs.Setup.{Configuration}
-use Rattle.cxl_codec.specs.Traces.{trace_bytes}
+use Rattle.cxl_codec.specs.declared.versions.Version.{Version}
 use Rattle.driven_laws.specs.Scripts.{IsDrivable}
 use Rattle.machine.specs.Stands.{MachineRecord, StandsFor}
 use Rattle.trace_stream.specs.Writing.{BreaksOff, GoesOn, WritesFront, Writing}
@@ -15,7 +15,7 @@ use Rattle.step_driver.specs.declared.schedules.Schedule.{Schedule}
 use Rattle.step_driver.specs.declared.summary.Summary.{Summary}
 use Rattle.step_driver.specs.declared.table.StreamTable.{StreamTable}
 use Rattle.step_driver.specs.Driver.{empty_table}
-use Rattle.step_driver.specs.Outputs.{HasPut, WritesTargetFront}
+use Rattle.step_driver.specs.Outputs.{HasPut, WritesTargetFront, trace_with, version_of}
 use Rattle.step_driver.specs.Schedules.{IsAt, no_events, picks_of, target}
 use Rattle.step_driver.specs.Summaries.{summary_of, total, with_event}
 use Rattle.step_driver.proofs.Adding.{goes_to_target}
@@ -52,7 +52,7 @@ loop_goes_on schedule script machine next s after journals entered picks left su
       at = at;
       counted = omega (arith, size);
       summed = ap (with_event e) l.summed;
-      put = λ start begun. subst (λ (events : List Event). HasPut start now script events) (one_more e l.t) (goes start script.setup script.opening (reverse l.t) (l.put start begun));
+      put = λ start begun. subst (λ (events : List Event). HasPut start now script events) (one_more e l.t) (goes start (version_of script) script.setup script.names script.opening (reverse l.t) (l.put start begun));
     }
 
 -- what a put that failed leaves
@@ -64,8 +64,8 @@ loop_cut schedule script machine next s after journals entered picks left sum st
     let on = goes_to_target schedule script left (e ∷ l.t) at.way in
     let parts : (reverse l.t ++ e ∷ []) ++ reverse on.later ≡ reverse (target schedule script) =
     ap (λ (events : List Event). events ++ reverse on.later) (one_more e l.t) ∙ sym (ap (λ (events : List Event). reverse events) on.is ∙ reverse-append on.later (e ∷ l.t)) in
-    subst (λ (events : List Event). WritesFront start now.out.gone (trace_bytes script.setup script.opening events)) parts
-    (fails start script.setup script.opening (reverse l.t) (l.put start begun) (reverse on.later))
+    subst (λ (events : List Event). WritesFront start now.out.gone (trace_with script events)) parts
+    (fails start (version_of script) script.setup script.names script.opening (reverse l.t) (l.put start begun) (reverse on.later))
 
 -- all is put
 pub loop_done :
@@ -89,12 +89,14 @@ loop_sum_is_small schedule script drivable machine s journals picks sum step old
     let same = ap total l.summed in
     omega (arith, few, small, same)
 
--- what holds of a script's setup and opening, as they were read
+-- what holds of a script's version, setup, names and opening, as they were read
 pub of_script :
-    (script : ScriptValue) (P : Configuration → List (Line × Bytes64) → Type 0) (setup : Configuration) (opening : List (Line × Bytes64))
-    → setup ≡ script.setup → opening ≡ script.opening → P setup opening → P script.setup script.opening
-of_script script P setup opening same equal p =
-    subst (λ (s : Configuration). P s script.opening) same (subst (λ (o : List (Line × Bytes64)). P setup o) equal p)
+    (script : ScriptValue) (P : Version → Configuration → List (ℕ × List ℕ) → List (Line × Bytes64) → Type 0) (version : Version) (setup : Configuration) (names : List (ℕ × List ℕ)) (opening : List (Line × Bytes64))
+    → version ≡ version_of script → setup ≡ script.setup → names ≡ script.names → opening ≡ script.opening → P version setup names opening → P (version_of script) script.setup script.names script.opening
+of_script script P version setup names opening same_version same_setup same_names same_opening p =
+    subst (λ (v : Version). P v script.setup script.names script.opening) same_version
+    (subst (λ (s : Configuration). P version s script.names script.opening) same_setup
+    (subst (λ (n : List (ℕ × List ℕ)). P version setup n script.opening) same_names (subst (λ (o : List (Line × Bytes64)). P version setup names o) same_opening p)))
 
 -- what holds in any case holds of a refusal
 pub on_refusal : {T E P : Type 0} (r : Result T E) → P → OnErr r P

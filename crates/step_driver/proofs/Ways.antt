@@ -5,7 +5,7 @@ use Rattle.std.proofs.Math.Nat.{mul-le-mul_right}
 use Rattle.std.proofs.lemmas.Bool.{and_parts, cases_Bool, eqb-false, eqb-true, false≢true, ltb-false, ltb-true, or_cases}
 use Rattle.std.proofs.lemmas.List.{get_or-set_other, get_or-set_same, length-set}
 use Rattle.std.proofs.lemmas.Option.{none-some, same_Some}
-use Rattle.cxl_codec.specs.VersionOne.{fits_version_one}
+use Rattle.cxl_codec.specs.Versions.{event_fits}
 use Rattle.cxl_message.specs.declared.events.Event.{Event}
 use Rattle.cxl_message.specs.Formed.{well_formed}
 use Rattle.cxl_message.specs.Script.{ScriptValue}
@@ -24,9 +24,10 @@ use Rattle.serial_laws.proofs.SerialWay.{serial_begins, serial_ends, serial_goes
 use Rattle.step_driver.specs.declared.schedules.Schedule.{Schedule}
 use Rattle.step_driver.specs.declared.table.StreamTable.{StreamTable}
 use Rattle.step_driver.specs.Driver.{IsKept, empty_table, one_counted}
+use Rattle.step_driver.specs.Outputs.{version_of}
 use Rattle.step_driver.specs.Picks.{IsTurned, chosen}
 use Rattle.step_driver.specs.Schedules.{IsAt, IsJournaled, IsOnWay, no_events, picks_of, room_of, target}
-use Rattle.step_driver.proofs.ShortTags.{tags_are_short}
+use Rattle.step_driver.proofs.Rooms.{event_has_room}
 use Rattle.step_driver.proofs.Turned.{own_parts}
 
 -- ---- the way
@@ -163,9 +164,9 @@ pub formed : (script : ScriptValue) (machine : MachineRecord) (s : StreamTable) 
 formed script machine s t e kept =
     (and_parts (well_formed e) _ (and_parts _ _ (and_parts _ _ (and_parts _ _ (own_parts script.setup script.opening t e kept.stands.run).0).0).0).0).0
 
--- and version 1 has room for its tags, where the setup has at most 64
-pub short_tags : (script : ScriptValue) (machine : MachineRecord) (s : StreamTable) (t : List Event) (e : Event) → IsKept script machine s (e ∷ t) → script.setup.tags ≤ 64 → IsTrue (fits_version_one e)
-short_tags script machine s t e kept few = tags_are_short script.setup few e (own_parts script.setup script.opening t e kept.stands.run).0
+-- and the script's version has room for its tags
+pub has_room : (script : ScriptValue) (machine : MachineRecord) (s : StreamTable) (t : List Event) (e : Event) → IsKept script machine s (e ∷ t) → IsTrue (event_fits (version_of script) e)
+has_room script machine s t e kept = event_has_room script e (own_parts script.setup script.opening t e kept.stands.run).0
 
 none_asked : (n h : ℕ) → get_or (replicate n false) h false ≡ false
 none_asked zero h = refl

@@ -2,10 +2,9 @@
 ghost use Rattle.std.specs.Prelude.{◌≡◌, ◌^◌, ◌<◌, IfOk, IsErrOf, OnErr, OnOk};
 ghost use Rattle.coherence_model.specs.Driven.{driven_trace, serial_trace};
 ghost use Rattle.outside_io.specs.Counts.{TellsFaults};
-ghost use Rattle.step_driver.specs.Outputs.{WritesDriven, WritesDrivenFront, WritesSerial, WritesSerialFront, WritesTarget, WritesTargetFront};
+ghost use Rattle.step_driver.specs.Outputs.{IsNewFor, WritesDriven, WritesDrivenFront, WritesSerial, WritesSerialFront, WritesTarget, WritesTargetFront};
 ghost use Rattle.step_driver.specs.Schedules.{target};
 ghost use Rattle.step_driver.specs.Summaries.{summary_of};
-ghost use Rattle.trace_stream.specs.Writing.{IsNew};
 
 use crate::putting::put_trace;
 use crate::refusals::DriveRefusal;
@@ -17,8 +16,8 @@ use script_text::Script;
 use std::alloc::Global;
 use trace_stream::TraceWriter;
 
-/// Writes the driven trace of a script into a new writer, from the header to the end record, and answers its summary (own rule: the
-/// driven trace takes the choice of each pick, and the first choice once the picks are used up, until all is done). A refusal leaves
+/// Writes the driven trace of a script into a new writer of the script's version and names (`writer_for` makes it), from the
+/// header to the end record, and answers its summary (own rule: the driven trace takes the choice of each pick, and the first choice once the picks are used up, until all is done). A refusal leaves
 /// the first bytes of that trace in the sink: `WriteFault` comes exactly where the sink counted a fault. The sink has counted fewer
 /// than 2 to the 62nd.
 pub fn drive<K: Sink>(
@@ -26,7 +25,7 @@ pub fn drive<K: Sink>(
     script: &Script,
     out: &mut TraceWriter<K>,
 ) -> Result<Summary, DriveRefusal>
-    requires new { IsNew out.old }
+    requires new { IsNewFor script.now out.old }
     requires sink_counts { out.old.out.highest < 2 ^ 62 }
 
     ensures summary { IfOk result (λ summary. summary ≡ summary_of (driven_trace script.now)) }
@@ -45,7 +44,7 @@ pub fn drive_within<K: Sink>(
     script: &Script,
     out: &mut TraceWriter<K>,
 ) -> Result<Summary, DriveRefusal>
-    requires new { IsNew out.old }
+    requires new { IsNewFor script.now out.old }
     requires sink_counts { out.old.out.highest < 2 ^ 62 }
 
     ensures summary { IfOk result (λ summary. summary ≡ summary_of (serial_trace script.now)) }
@@ -64,7 +63,7 @@ fn drive_by<K: Sink>(
     script: &Script,
     out: &mut TraceWriter<K>,
 ) -> Result<Summary, DriveRefusal>
-    requires new { IsNew out.old }
+    requires new { IsNewFor script.now out.old }
     requires sink_counts { out.old.out.highest < 2 ^ 62 }
 
     ensures summary { IfOk result (λ summary. summary ≡ summary_of (target schedule script.now)) }

@@ -15,7 +15,9 @@ mod schedules;
 mod summary;
 mod table;
 mod turns;
+mod versions;
 
 pub use driving::{drive, drive_within};
 pub use refusals::DriveRefusal;
 pub use summary::Summary;
+pub use versions::{trace_version, writer_for};

@@ -1,15 +1,14 @@
 // The trace of a script, put into a writer as it is driven.
 ghost use Rattle.std.specs.Prelude.{◌≡◌, ◌+◌, ◌^◌, ◌<◌, ◌≤◌, [], IfOk, IsErrOf, List, OnErr, OnOk, Option, reverse, ℕ};
-ghost use Rattle.cxl_codec.specs.Traces.{trace_bytes};
 ghost use Rattle.cxl_message.specs.declared.events.Event.{Event as AnEvent};
 ghost use Rattle.driven_laws.specs.Scripts.{IsDrivable};
 ghost use Rattle.machine.specs.Stands.{StandsFor};
 ghost use Rattle.outside_io.specs.Counts.{TellsFaults};
-ghost use Rattle.step_driver.specs.Outputs.{HasPut, WritesTarget, WritesTargetFront};
+ghost use Rattle.step_driver.specs.Outputs.{HasPut, IsNewFor, WritesTarget, WritesTargetFront, trace_with, version_of};
 ghost use Rattle.step_driver.specs.Schedules.{target};
 ghost use Rattle.step_driver.specs.Summaries.{summary_of};
 ghost use Rattle.trace_stream.specs.Buffers.{reach};
-ghost use Rattle.trace_stream.specs.Writing.{IsNew, WritesFront};
+ghost use Rattle.trace_stream.specs.Writing.{WritesFront};
 ghost use Rattle.trace_stream.specs.declared.progress.Progress.{Progress};
 
 use crate::going::{go_on, left_of};
@@ -34,9 +33,8 @@ pub fn put_trace<K: Sink>(
     writer: &mut TraceWriter<K>,
 ) -> Result<Summary, TraceWriteRefusal>
     requires drivable { IsDrivable script.now }
-    requires tags { script.now.setup.tags ≤ 64 }
     requires opened { StandsFor machine.old script.now.setup script.now.opening [] }
-    requires new { IsNew writer.old }
+    requires new { IsNewFor script.now writer.old }
     requires sink_counts { writer.old.out.highest < 2 ^ 62 }
 
     ensures summary { IfOk result (λ summary. summary ≡ summary_of (target schedule script.now)) }
@@ -51,20 +49,20 @@ pub fn put_trace<K: Sink>(
     Ok(summary)
 }
 
-/// Begins the trace of a script: its setup and its opening.
+/// Begins the trace of a script: its setup, the names of its streams and its opening.
 fn begin_trace<K: Sink>(
     script: &Script,
     writer: &mut TraceWriter<K>,
 ) -> Result<(), TraceWriteRefusal>
     requires drivable { IsDrivable script.now }
-    requires tags { script.now.setup.tags ≤ 64 }
-    requires new { IsNew writer.old }
+    requires new { IsNewFor script.now writer.old }
     requires sink_counts { writer.old.out.highest < 2 ^ 62 }
 
     ensures begun { OnOk result (HasPut writer.old.out.gone writer.new script.now []) }
     ensures progress { OnOk result (writer.new.progress ≡ Progress.Begun) }
+    ensures version { OnOk result (writer.new.version ≡ version_of script.now) }
     ensures none { OnOk result (writer.new.count ≡ 0) }
-    ensures cut_short { (events : List AnEvent) → OnErr result (WritesFront writer.old.out.gone writer.new.out.gone (trace_bytes script.now.setup script.now.opening events)) }
+    ensures cut_short { (events : List AnEvent) → OnErr result (WritesFront writer.old.out.gone writer.new.out.gone (trace_with script.now events)) }
     ensures faults { TellsFaults writer.old.out.faults writer.new.out.faults (IsErrOf result TraceWriteRefusal.WriteFault) }
     ensures counts { OnOk result (reach writer.new.out < 2 ^ 62 + 2 ^ 34) }
     ensures same_sink { writer.new.out.sink ≡ writer.old.out.sink }
@@ -80,9 +78,9 @@ fn put_events<K: Sink>(
     writer: &mut TraceWriter<K>,
 ) -> Result<Summary, TraceWriteRefusal>
     requires drivable { IsDrivable script.now }
-    requires tags { script.now.setup.tags ≤ 64 }
     requires opened { StandsFor machine.old script.now.setup script.now.opening [] }
     requires begun { writer.old.progress ≡ Progress.Begun }
+    requires version { writer.old.version ≡ version_of script.now }
     requires none { writer.old.count ≡ 0 }
     requires counts { reach writer.old.out < 2 ^ 62 + 2 ^ 34 }
 

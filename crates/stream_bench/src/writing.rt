@@ -1,6 +1,7 @@
 // A trace is written to a sink that takes pieces, or its records are encoded alone.
 ghost use Rattle.std.specs.Prelude.{◌≡◌, ◌+◌, ◌*◌, ◌^◌, ◌<◌, ◌≤◌, IfSome, IsTrue, OnOk};
 ghost use Rattle.cxl_codec.specs.VersionOne.{setup_fits_version_one};
+ghost use Rattle.cxl_codec.specs.declared.versions.Version.{Version};
 ghost use Rattle.trace_stream.specs.Buffers.{reach};
 ghost use Rattle.trace_stream.specs.declared.progress.Progress.{Progress};
 
@@ -111,6 +112,7 @@ fn write_trace<K: Sink>(alloc: Global, groups: u32, sink: &mut K) -> Result<(), 
 /// Puts so many groups of events.
 fn put_groups<K: Sink>(groups: u32, writer: &mut TraceWriter<K>) -> Result<(), TraceWriteRefusal>
     requires begun { writer.old.progress ≡ Progress.Begun }
+    requires version { writer.old.version ≡ Version.One }
     requires none { writer.old.count ≡ 0 }
     requires counts { reach writer.old.out < 2000 }
     ensures begun { OnOk result (writer.new.progress ≡ Progress.Begun) }

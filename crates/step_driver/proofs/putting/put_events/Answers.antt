@@ -1,12 +1,13 @@
 -- The loop goes on by each turn, and ends at the trace that is put.
-use Rattle.std.proofs.Common.{ap, arith, refl, subst, sym, ◌+◌, ◌∙◌}
+use Rattle.std.proofs.Common.{IsTrue, ap, arith, refl, subst, sym, ◌+◌, ◌∙◌}
+use Rattle.cxl_codec.specs.Versions.{event_fits}
 use Rattle.coherence_model.specs.Driven.{picks_left}
 use Rattle.trace_stream.proofs.Costs.{no_fault}
 use Rattle.step_driver.specs.Driver.{empty_table}
 use Rattle.step_driver.specs.Schedules.{no_events, picks_of}
 use Rattle.step_driver.specs.Summaries.{summary_of}
 use Rattle.step_driver.proofs.Loops.{LoopAt, loop_cut, loop_done, loop_goes_on, loop_is_short, loop_starts, loop_sum_is_small, on_refusal}
-use Rattle.step_driver.proofs.Ways.{formed, short_tags}
+use Rattle.step_driver.proofs.Ways.{formed, has_room}
 use Rattle.step_driver.proofs.putting.put_events.Goals as goal
 
 pub loop-init : goal.loop-init
@@ -23,6 +24,7 @@ loop-init g c =
           (subst (λ picks. LoopAt schedule script machine empty_table no_events picks c.new-summary.result 0 old old) (sym c.picks-picks.ensures)
           (subst (λ sum. LoopAt schedule script machine empty_table no_events (picks_of schedule script) sum 0 old old) (sym c.new-summary.ensures) starts)));
       begun = c.requires.begun;
+      version = c.requires.version;
       count = c.requires.none;
       counts = omega arith;
       faults = refl;
@@ -54,10 +56,11 @@ put_room-requires-clause-formed g c =
     let l = c.loop.invariant.at in
     formed c.args.script.now c.go_on.new.machine c.go_on.new.table l.t c.go_on.new.made (c.if-not-go_on.ensures.goes l.t l.at refl).kept
 
-pub put_room-requires-clause-version_one : goal.put_room-requires-clause-version_one
-put_room-requires-clause-version_one g c =
+pub put_room-requires-clause-version : goal.put_room-requires-clause-version
+put_room-requires-clause-version g c =
     let l = c.loop.invariant.at in
-    short_tags c.args.script.now c.go_on.new.machine c.go_on.new.table l.t c.go_on.new.made (c.if-not-go_on.ensures.goes l.t l.at refl).kept c.requires.tags
+    subst (λ version. IsTrue (event_fits version c.go_on.new.made)) (sym c.loop.invariant.version)
+    (has_room c.args.script.now c.go_on.new.machine c.go_on.new.table l.t c.go_on.new.made (c.if-not-go_on.ensures.goes l.t l.at refl).kept)
 
 pub returns-in_err-put_room-clause-cut_short : goal.returns-in_err-put_room-clause-cut_short
 returns-in_err-put_room-clause-cut_short g c start begun =
@@ -83,6 +86,7 @@ loop-preserved g c =
           subst (λ picks. LoopAt schedule script c.go_on.new.machine c.go_on.new.table c.go_on.new.journals.0 picks c.count.new.self (c.loop.counter + 1) old c.put_room.new.self) (sym c.left_of-picks.ensures)
           (subst (λ sum. LoopAt schedule script c.go_on.new.machine c.go_on.new.table c.go_on.new.journals.0 (picks_left c.loop.picks.now) sum (c.loop.counter + 1) old c.put_room.new.self) (sym c.count.ensures) goes);
       begun = e.progress;
+      version = c.put_room.ensures.same_version ∙ i.version;
       count = omega (arith, i.count, e.count);
       counts = omega (arith, i.counts, rises);
       faults = no_fault _ _ _ _ e.kept ∙ i.faults;

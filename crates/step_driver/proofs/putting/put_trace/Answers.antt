@@ -1,5 +1,6 @@
 -- The end record goes behind the events, and what a refusal leaves is a front of the trace.
 use Rattle.std.proofs.Common.{reverse}
+use Rattle.step_driver.specs.Outputs.{version_of}
 use Rattle.step_driver.specs.Schedules.{target}
 use Rattle.step_driver.proofs.Loops.{on_refusal}
 use Rattle.step_driver.proofs.putting.put_trace.Goals as goal
@@ -16,10 +17,10 @@ returns-in_err-end-clause-cut_short g c =
     let script = c.args.script.now in
     let start = c.args.writer.now.out.gone in
     on_refusal c.from_residual-in_err-end.result
-    (c.in_err-end.ensures.front start script.setup script.opening (reverse (target c.args.schedule script)) (c.in_ok-summary.ensures.put start c.in_ok-begin_trace.ensures.begun))
+    (c.in_err-end.ensures.front start (version_of script) script.setup script.names script.opening (reverse (target c.args.schedule script)) (c.in_ok-summary.ensures.put start c.in_ok-begin_trace.ensures.begun))
 
 pub returns-clause-written : goal.returns-clause-written
 returns-clause-written g c =
     let script = c.args.script.now in
     let start = c.args.writer.now.out.gone in
-    c.in_ok-end.ensures.trace start script.setup script.opening (reverse (target c.args.schedule script)) (c.in_ok-summary.ensures.put start c.in_ok-begin_trace.ensures.begun)
+    c.in_ok-end.ensures.trace start (version_of script) script.setup script.names script.opening (reverse (target c.args.schedule script)) (c.in_ok-summary.ensures.put start c.in_ok-begin_trace.ensures.begun)
