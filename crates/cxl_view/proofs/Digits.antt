@@ -1,0 +1,8 @@
+-- Numbers of one digit.
+use Rattle.std.proofs.Common.{◌≡◌, ℕ, ◌+◌, ◌<◌, [], ◌∷◌}
+use Rattle.std.specs.Fmt.{decimal}
+use Rattle.std.proofs.lemmas.Fmt.{decimal_digit}
+
+-- a number below ten is one digit
+pub one_digit : (n : ℕ) → n < 10 → decimal n ≡ (48 + n) ∷ []
+one_digit n low = decimal_digit n low

@@ -1,0 +1,6 @@
+mod Digits
+mod Within
+mod Counted
+mod Fronts
+mod Streams
+mod Sums
