@@ -1,8 +1,11 @@
-//! Tests of scripts as text: forms of lines, their limits, each reason to refuse one, and scripts that a seed makes.
+//! Tests of scripts as text: forms of lines, their limits, names of streams, each reason to refuse a line, and scripts that a
+//! seed makes.
 #![tactic(auto)]
 
 #[cfg(test)]
 mod generated;
+#[cfg(test)]
+mod names;
 #[cfg(test)]
 mod reading;
 #[cfg(test)]

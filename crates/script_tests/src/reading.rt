@@ -62,7 +62,7 @@ fn silent_upgrade(rt: HostRuntime) -> Result<(), Fail> {
 fn greatest_numbers(rt: HostRuntime) -> Result<(), Fail> {
     let mut text = String::new(rt.alloc());
     text.push_str(
-        "hosts 16\nlines 65536\nfilter 4096\nways 256\ntags 64\ncredits 64\nroom 200000\n",
+        "hosts 16\nlines 65536\nfilter 4096\nways 256\ntags 1024\ncredits 64\nroom 200000\n",
     )?;
     for _ in 0..64 {
         text.push_str("stream 15\n")?;

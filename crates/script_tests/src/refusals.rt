@@ -42,7 +42,7 @@ static HEAD_LIMITS: [Damage; 21] = [
     (3, "ways 257\n", 4, ScriptReason::Range),
     (3, "", 4, ScriptReason::Spelling),
     (4, "tags 1\n", 5, ScriptReason::Range),
-    (4, "tags 65\n", 5, ScriptReason::Range),
+    (4, "tags 1025\n", 5, ScriptReason::Range),
     (4, "", 5, ScriptReason::Spelling),
     (5, "credits 1\n", 6, ScriptReason::Range),
     (5, "credits 65\n", 6, ScriptReason::Range),
@@ -148,12 +148,11 @@ static OPENINGS: [Damage; 13] = [
 ];
 
 // Damages of streams and loads.
-static STREAMS: [Damage; 13] = [
+static STREAMS: [Damage; 12] = [
     (9, "stream 2\n", 10, ScriptReason::Range),
     (9, "", 10, ScriptReason::Spelling),
     (9, "stream 01\n", 10, ScriptReason::Spelling),
     (9, "stream\n", 10, ScriptReason::Spelling),
-    (9, "stream 1 1\n", 10, ScriptReason::Spelling),
     (
         9,
         "stream 1\nopen 7 00000000000000000000000000000000000000000000000000000000000000000000000000000000000000000000000000000000000000000000000000000001\n",
@@ -167,6 +166,29 @@ static STREAMS: [Damage; 13] = [
     (10, "load 7\r\n", 11, ScriptReason::Spelling),
     (10, "store 7\n", 11, ScriptReason::Spelling),
     (10, "load load 7\n", 11, ScriptReason::Spelling),
+];
+
+// Damages of streams with names.
+static NAMES: [Damage; 14] = [
+    (9, "stream 2 cpu\n", 10, ScriptReason::Range),
+    (9, "stream 1 \n", 10, ScriptReason::Spelling),
+    (9, "stream  cpu\n", 10, ScriptReason::Spelling),
+    (9, "stream cpu\n", 10, ScriptReason::Spelling),
+    (9, "stream 1 Cpu\n", 10, ScriptReason::Spelling),
+    (9, "stream 1 cpu-0\n", 10, ScriptReason::Spelling),
+    (9, "stream 1  cpu\n", 10, ScriptReason::Spelling),
+    (9, "stream 1 cpu \n", 10, ScriptReason::Spelling),
+    (9, "stream 1 cpu 0\n", 10, ScriptReason::Spelling),
+    (9, "stream 1 cpu\r\n", 10, ScriptReason::Spelling),
+    (9, "stream 01 cpu\n", 10, ScriptReason::Spelling),
+    (
+        9,
+        "stream 1 abcdefghijklmnopqrstuvwxyz0123456\n",
+        10,
+        ScriptReason::Spelling,
+    ),
+    (14, "pick 0\nstream 0 cpu\n", 16, ScriptReason::Spelling),
+    (14, "pick 0\nstream 2 cpu\n", 16, ScriptReason::Spelling),
 ];
 
 // Damages of stores.
@@ -311,6 +333,7 @@ fn each_damage_is_refused_at_its_line(rt: HostRuntime) -> Result<(), Fail> {
     try_damages(&rt, rt.alloc(), &HEAD_SPELLINGS)?;
     try_damages(&rt, rt.alloc(), &OPENINGS)?;
     try_damages(&rt, rt.alloc(), &STREAMS)?;
+    try_damages(&rt, rt.alloc(), &NAMES)?;
     try_damages(&rt, rt.alloc(), &STORES)?;
     try_damages(&rt, rt.alloc(), &PICKS)?;
     for (text, at, reason) in SHORT {
