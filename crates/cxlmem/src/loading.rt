@@ -14,8 +14,7 @@ use crate::summaries::write_summary;
 use outside_io::{CountSink, Sink};
 use script_text::generate;
 use std::alloc::{AllocError, Global};
-use step_driver::{DriveRefusal, Summary};
-use trace_stream::TraceWriter;
+use step_driver::{DriveRefusal, Summary, writer_for};
 
 // The seed of every script that the command makes.
 const SEED: u64 = 1;
@@ -44,9 +43,7 @@ fn drive_generated(alloc: Global, count: u32) -> Result<Summary, AllocError>
 {
     let script = generate(alloc, count, SEED)?;
     let mut sink = CountSink::new();
-    let Ok(mut writer) = TraceWriter::new(alloc, &mut sink) else {
-        unreachable!("a new writer is never refused")
-    };
+    let mut writer = writer_for(alloc, &script, &mut sink);
     let result = step_driver::drive(alloc, &script, &mut writer);
     writer.into_sink();
     match result {

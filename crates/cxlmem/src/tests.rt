@@ -164,6 +164,20 @@ fn drives_flow(rt: &impl Abort, alloc: Global, flow: &Flow) -> Result<(), AllocE
     Ok(())
 }
 
+/// One load of a stream with a name.
+const NAMED_LOAD: &[u8] =
+    b"hosts 1\nlines 4\nfilter 4\nways 4\ntags 2\ncredits 2\nroom 100\nstream 0 cpu\nload 0\n";
+
+#[test]
+fn a_named_stream_asks_for_version_two(rt: HostRuntime) -> Result<(), Fail> {
+    let driven = run(rt.alloc(), &["drive"], NAMED_LOAD, &[], &[])?;
+    assert_eq!(rt; driven.status, Status::Ok);
+    assert_eq!(rt; driven.written.len(), 326);
+    assert_eq!(rt; driven.written.get(4), Some(&2));
+    assert!(rt; driven.written.get(16..22) == Some(b"\xf1\x00\x03cpu".as_slice()));
+    Ok(())
+}
+
 #[test]
 fn flows_of_several_hosts_are_driven(rt: HostRuntime) -> Result<(), Fail> {
     for flow in [
@@ -201,7 +215,7 @@ fn other_inputs_are_refused_at_their_line(rt: HostRuntime) -> Result<(), Fail> {
         ("", "bad script: line 1: missing\n"),
         ("hosts 1\r\n", "bad script: line 1: spelling\n"),
         (
-            "hosts 1\nlines 1\nfilter 1\nways 1\ntags 65\n",
+            "hosts 1\nlines 1\nfilter 1\nways 1\ntags 1025\n",
             "bad script: line 5: range\n",
         ),
         (

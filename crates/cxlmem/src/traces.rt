@@ -8,8 +8,7 @@ use crate::ends::Status;
 use outside_io::Sink;
 use script_text::Script;
 use std::alloc::Global;
-use step_driver::DriveRefusal;
-use trace_stream::TraceWriter;
+use step_driver::{DriveRefusal, writer_for};
 
 /// Writes the driven trace of a script, in pieces, as it is driven.
 #[tactic(auto, using(crate::proofs::Fronts::front_of))]
@@ -21,9 +20,7 @@ pub fn write_trace<K: Sink>(alloc: Global, script: &Script, sink: &mut K) -> Sta
     ensures write_fault { TellsWriteFault (K.faults sink.old) (K.faults sink.new) result }
     ensures nothing_else { (result ≡ Status.Ok) ⊎ (result ≡ Status.WriteFault) ⊎ (result ≡ Status.Memory) }
 {
-    let Ok(mut writer) = TraceWriter::new(alloc, sink) else {
-        unreachable!("a new writer is never refused")
-    };
+    let mut writer = writer_for(alloc, script, sink);
     let result = step_driver::drive(alloc, script, &mut writer);
     writer.into_sink();
     match result {
