@@ -11,6 +11,14 @@ IsSingle words text = map string_bytes words ≡ text ∷ []
 abbrev pub IsDrive : List (String Global) → Type 0
 IsDrive words = IsSingle words (codes "drive")
 
+-- the words are the single word `check`
+abbrev pub IsCheck : List (String Global) → Type 0
+IsCheck words = IsSingle words (codes "check")
+
+-- the words are a command that reads its input
+abbrev pub IsReader : List (String Global) → Type 0
+IsReader words = IsDrive words ⊎ IsCheck words
+
 -- the words are `load` and this number in decimal, without leading zeros; it is at most 65,536
 pub record IsLoad (words : List (String Global)) (number : ℕ) : Type 0 where
   pub within : number ≤ MAX_OPERATIONS
@@ -18,11 +26,11 @@ pub record IsLoad (words : List (String Global)) (number : ℕ) : Type 0 where
 
 -- the words are a form that is built
 abbrev pub IsBuilt : List (String Global) → Type 0
-IsBuilt words = IsDrive words ⊎ ((n : ℕ) × IsLoad words n)
+IsBuilt words = IsReader words ⊎ ((n : ℕ) × IsLoad words n)
 
 -- the words are a form that isn't built
 abbrev pub IsUnbuilt : List (String Global) → Type 0
-IsUnbuilt words = IsSingle words (codes "check") ⊎ IsSingle words (codes "view") ⊎ IsSingle words (codes "run")
+IsUnbuilt words = IsSingle words (codes "view") ⊎ IsSingle words (codes "run")
 
 -- the words are a form of the command line
 abbrev pub IsForm : List (String Global) → Type 0

@@ -25,6 +25,7 @@ pub fn drive<S: Source, K: Sink>(alloc: Global, source: &mut S, sink: &mut K) ->
     ensures driven { result ≡ Status.Ok → IfSome (S.left source.old) (λ input. Drives input (K.gone sink.old) (K.gone sink.new)) }
 
     ensures no_usage { result ≡ Status.Usage → ⊥ }
+    ensures no_verdict { (result ≡ Status.BadTrace) ⊎ (result ≡ Status.NotARun) → ⊥ }
     ensures read_fault { TellsFaults (S.faults source.old) (S.faults source.new) (result ≡ Status.ReadFault) }
     ensures write_fault { TellsWriteFault (K.faults sink.old) (K.faults sink.new) result }
     ensures bad_script { result ≡ Status.BadScript → RefusesScript (S.left source.old) (K.gone sink.old) (K.gone sink.new) (K.faults sink.old) (K.faults sink.new) }
@@ -52,6 +53,7 @@ fn drive_input<K: Sink>(alloc: Global, input: &[u8], sink: &mut K) -> Status
 
     ensures driven { result ≡ Status.Ok → Drives input.now (K.gone sink.old) (K.gone sink.new) }
     ensures no_usage { result ≡ Status.Usage → ⊥ }
+    ensures no_verdict { (result ≡ Status.BadTrace) ⊎ (result ≡ Status.NotARun) → ⊥ }
     ensures read_well { result ≡ Status.ReadFault → ⊥ }
     ensures not_long { result ≡ Status.TooLong → ⊥ }
     ensures write_fault { TellsWriteFault (K.faults sink.old) (K.faults sink.new) result }

@@ -1,12 +1,15 @@
 // How a command ends: its status, and the text that a refusal writes.
 ghost use Rattle.std.specs.Prelude.{◌≡◌, ◌+◌, ◌*◌, ◌^◌, ◌<◌, ◌≤◌, length};
-ghost use Rattle.cxlmem.specs.Texts.{bad_script_text, not_built_text, read_fault_text, reason_word, too_long_text, usage_text};
+ghost use Rattle.cxlmem.specs.Texts.{bad_script_text, bad_trace_text, not_a_run_text, not_built_text, read_fault_text, reason_word, too_long_text, usage_text};
 ghost use Rattle.cxlmem.specs.Outcomes.{WritesText};
 
+use crate::verdicts::{broken_text, fault_text};
 use arrayvec::ArrayString;
+use cxl_message::RuleNo;
 use itoa::Buffer;
 use outside_io::{Sink, write_all};
 use script_text::ScriptReason;
+use trace_stream::Reason;
 
 /// How a command ends. Each status has its cause in the contract of `command` (own rule).
 #[derive(Clone, Copy, PartialEq, Eq, Debug)]
@@ -112,6 +115,26 @@ pub fn bad_script<K: Sink>(sink: &mut K, line: u32, reason: ScriptReason) -> Sta
     text.push_str("\n");
     refuse(sink, text.as_bytes());
     Status::BadScript
+}
+
+/// Writes the event and the rule by which a trace is no run, as far as the sink takes it.
+pub fn not_a_run<K: Sink>(sink: &mut K, event: u64, rule: RuleNo) -> Status
+    requires { K.highest_count sink.old < 2 ^ 62 }
+    ensures status { result ≡ Status.NotARun }
+    ensures text { WritesText (K.gone sink.old) (K.gone sink.new) (K.faults sink.old) (K.faults sink.new) (not_a_run_text event rule) }
+{
+    refuse(sink, broken_text(event, rule).as_bytes());
+    Status::NotARun
+}
+
+/// Writes the place and the reason for which an input is no trace, as far as the sink takes it.
+pub fn bad_trace<K: Sink>(sink: &mut K, at: u64, reason: Reason) -> Status
+    requires { K.highest_count sink.old < 2 ^ 62 }
+    ensures status { result ≡ Status.BadTrace }
+    ensures text { WritesText (K.gone sink.old) (K.gone sink.new) (K.faults sink.old) (K.faults sink.new) (bad_trace_text at reason) }
+{
+    refuse(sink, fault_text(at, reason).as_bytes());
+    Status::BadTrace
 }
 
 /// The word of a reason.

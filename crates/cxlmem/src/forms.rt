@@ -1,7 +1,7 @@
 // The words of the command line.
 ghost use Rattle.std.specs.Prelude.{◌≡◌, ◌≢◌, ◌↔◌, ◌≤◌, IfSome, IsTrue, None, decimal, string_bytes, ℕ};
 ghost use Rattle.script_text.specs.declared.limits.TheConstants.{MAX_OPERATIONS};
-ghost use Rattle.cxlmem.specs.CommandLine.{IsDrive, IsLoad, IsUnbuilt};
+ghost use Rattle.cxlmem.specs.CommandLine.{IsCheck, IsDrive, IsLoad, IsUnbuilt};
 
 use itoa::Buffer;
 use script_text::MAX_OPERATIONS;
@@ -16,12 +16,22 @@ pub fn is_drive(words: &[String]) -> bool
     }
 }
 
+/// Whether the words are the single word `check`.
+pub fn is_check(words: &[String]) -> bool
+    ensures { IsTrue result ↔ IsCheck words.now }
+{
+    match words {
+        [word] => is_text(word, "check"),
+        _ => false,
+    }
+}
+
 /// Whether the words are a form that isn't built.
 pub fn is_unbuilt(words: &[String]) -> bool
     ensures { IsTrue result ↔ IsUnbuilt words.now }
 {
     match words {
-        [word] => is_text(word, "check") || is_text(word, "view") || is_text(word, "run"),
+        [word] => is_text(word, "view") || is_text(word, "run"),
         _ => false,
     }
 }

@@ -5,6 +5,7 @@
 //! The words, the statuses and the texts are this project's own and no statement about the CXL standard.
 #![tactic(auto)]
 
+mod checking;
 mod commands;
 mod driving;
 mod ends;
@@ -14,6 +15,7 @@ mod summaries;
 #[cfg(test)]
 mod tests;
 mod traces;
+mod verdicts;
 
 pub use commands::command;
 pub use ends::Status;

@@ -24,7 +24,7 @@ pub fn write_summary<K: Sink>(sink: &mut K, summary: &Summary) -> Status
 }
 
 /// Writes a text that a command was asked for.
-fn write_text<K: Sink>(sink: &mut K, text: &[u8]) -> Status
+pub fn write_text<K: Sink>(sink: &mut K, text: &[u8]) -> Status
     requires sink_counts { K.highest_count sink.old + 2 * length text.now + 1 < 2 ^ 63 }
 
     ensures written { result ≡ Status.Ok → Appends (K.gone sink.old) (K.gone sink.new) text.now }

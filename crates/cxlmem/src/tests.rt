@@ -1,4 +1,5 @@
 // The commands over sources and sinks in memory: worked examples, each read and write failing once, and each refusal.
+mod checks;
 mod examples;
 mod flows;
 mod line_feeds;
@@ -121,7 +122,7 @@ static OTHER_WORDS: [&[&str]; 9] = [
 ];
 
 // Words of forms that aren't built.
-static UNBUILT_WORDS: [&[&str]; 3] = [&["check"], &["view"], &["run"]];
+static UNBUILT_WORDS: [&[&str]; 2] = [&["view"], &["run"]];
 
 #[test]
 fn other_words_are_told_the_usage(rt: HostRuntime) -> Result<(), Fail> {
@@ -161,20 +162,6 @@ fn drives_flow(rt: &impl Abort, alloc: Global, flow: &Flow) -> Result<(), AllocE
     assert_eq!(rt; done.status, Status::Ok);
     assert_eq!(rt; done.written.len(), flow.length);
     assert_eq!(rt; weighted(&done.written), flow.sum);
-    Ok(())
-}
-
-/// One load of a stream with a name.
-const NAMED_LOAD: &[u8] =
-    b"hosts 1\nlines 4\nfilter 4\nways 4\ntags 2\ncredits 2\nroom 100\nstream 0 cpu\nload 0\n";
-
-#[test]
-fn a_named_stream_asks_for_version_two(rt: HostRuntime) -> Result<(), Fail> {
-    let driven = run(rt.alloc(), &["drive"], NAMED_LOAD, &[], &[])?;
-    assert_eq!(rt; driven.status, Status::Ok);
-    assert_eq!(rt; driven.written.len(), 326);
-    assert_eq!(rt; driven.written.get(4), Some(&2));
-    assert!(rt; driven.written.get(16..22) == Some(b"\xf1\x00\x03cpu".as_slice()));
     Ok(())
 }
 
