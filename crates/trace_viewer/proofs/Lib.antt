@@ -1,0 +1,5 @@
+pub mod Parts
+pub mod Texts
+pub mod Bytes
+pub mod Starts
+pub mod Finishes
