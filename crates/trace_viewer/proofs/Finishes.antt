@@ -1,16 +1,14 @@
--- What was read to its end: a trace that was shown whole, or a fault; and that there is one front.
+-- What was read to its end: a trace that was shown whole, or a fault.
 use Rattle.std.proofs.Common.{List, None, Some, Ok, Err, Option, [], ◌++◌, ◌+◌, ◌≡◌, inl, inr, append-nil, length, refl, sym, ap, subst, ◌∙◌, ℕ}
 use Rattle.std.specs.Prelude.{IfNone, Result}
 use Rattle.cxl_view.specs.Tallies.{Counts, tally_lines}
 use Rattle.trace_stream.specs.declared.items.Item.{Item}
 use Rattle.trace_stream.specs.declared.items.TraceFault.{TraceFault}
 use Rattle.trace_stream.specs.declared.stages.Stage.{Stage}
-use Rattle.trace_stream.specs.Laws.{OneList, Stops}
 use Rattle.trace_stream.specs.Readings.{end_of, fed_count, unless_fault}
 use Rattle.trace_stream.specs.Items.{Says}
-use Rattle.trace_stream.specs.Runs.{Fails, HasRead, IsTraceOf, items_bytes, stage_after}
+use Rattle.trace_stream.specs.Runs.{HasRead, IsTraceOf, items_bytes, stage_after}
 use Rattle.trace_viewer.specs.Items.{counts_in, shown_items}
-use Rattle.trace_viewer.specs.Laws.{OneFront}
 use Rattle.trace_viewer.specs.Viewing.{AppendsSome, HasShown, HasShownAll, HasShownUnless, IsFrontShown, IsShown, Viewing}
 use Rattle.trace_viewer.proofs.Bytes.{unless_none}
 use Rattle.trace_viewer.proofs.Texts.{shown_whole}
@@ -62,17 +60,3 @@ ends_front bytes text out v fault has is = record {
   appended = sym (append-nil out);
   holds = subst (λ (l : List ℕ). IsFrontShown bytes l fault) (sym (append-nil text)) (front_by v.reading.fault bytes text v fault has.shown has.drained is);
 }
-
--- ---- one front
-
-more_alone : (item : Item) → ◌≡◌ {A = Result Item TraceFault} (Ok Item.More) (Ok item) → item ≡ Item.More
-more_alone item e = cc
-
-stops : (items : List Item) (rest : List ℕ) (fault : TraceFault) → Fails (stage_after Stage.Start items) (length (items_bytes items)) rest fault → Stops items rest
-stops items rest fault (inl says) = record { outcome = Err fault; says = says; no_item = λ item e. absurd cc }
-stops items rest fault (inr short) = record { outcome = Ok Item.More; says = short.0; no_item = more_alone }
-
-pub one_front : OneList → OneFront
-one_front one bytes a b f g x y =
-    let same = one bytes x.items y.items x.rest y.rest x.read (stops x.items x.rest f x.fails) y.read (stops y.items y.rest g y.fails) in
-    x.shown ∙ ap shown_items same.0 ∙ sym y.shown

@@ -3,3 +3,4 @@ pub mod Texts
 pub mod Bytes
 pub mod Starts
 pub mod Finishes
+pub mod Views

@@ -11,6 +11,6 @@ mod showing;
 mod viewed;
 mod viewer;
 
-pub use laws::{items_are_shown, one_front};
+pub use laws::{items_are_shown, one_view, traces_are_shown};
 pub use viewed::Viewed;
 pub use viewer::Viewer;

@@ -37,6 +37,7 @@ impl Viewer {
     /// A viewer that was fed nothing. `Err` is want of memory.
     pub fn new(alloc: Global) -> Result<Viewer, AllocError>
         ensures shown { IfOk result (λ viewer. HasShown [] [] viewer) }
+        ensures viewing { IfOk result (λ viewer. IsViewing viewer) }
         ensures fed { IfOk result (λ viewer. fed_count viewer.reading ≡ 0) }
     {
         let reader = TraceReader::new(alloc)?;
